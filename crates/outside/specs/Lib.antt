@@ -1,0 +1,5 @@
+pub mod Causes
+pub mod Adapters
+pub mod Sinks
+pub mod Shelves
+pub mod Memory

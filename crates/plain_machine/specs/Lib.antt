@@ -1,0 +1,4 @@
+pub mod Program
+pub mod Instructions
+pub mod Registers
+pub mod Plain
