@@ -43,8 +43,8 @@ add_value word = if bits word 22 22 == 1 then bits word 21 10 * 4096 else bits w
 -- the instruction of a word, or none where it isn't built
 abbrev pub instruction : ℕ → Option Instruction
 instruction word =
-  if is_move word then Some (Move (bits word 4 0) (move_value word))
-  else (if is_add word then Some (Add (bits word 4 0) (bits word 9 5) (add_value word))
-  else (if is_address word then Some (Address (bits word 4 0) (sign_extended 21 (bits word 23 5 * 4 + bits word 30 29)))
-  else (if is_branch word then Some (Branch (sign_extended 28 (bits word 25 0 * 4)))
-  else (if is_supervisor_call word then Some SupervisorCall else None))))
+    if is_move word then Some (Move (bits word 4 0) (move_value word))
+    else (if is_add word then Some (Add (bits word 4 0) (bits word 9 5) (add_value word))
+    else (if is_address word then Some (Address (bits word 4 0) (sign_extended 21 (bits word 23 5 * 4 + bits word 30 29)))
+    else (if is_branch word then Some (Branch (sign_extended 28 (bits word 25 0 * 4)))
+    else (if is_supervisor_call word then Some SupervisorCall else None))))

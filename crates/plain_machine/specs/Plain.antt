@@ -28,7 +28,12 @@ pub record State : Type 0 where
 abbrev pub start : ProgramView → State
 start program = record {
   registers = record { x = replicate 31 0; pc = program.entry };
-  phase = User; piece = record { at = 0; len = 0 }; answer = 0; out = []; code = None }
+  phase = User;
+  piece = record { at = 0; len = 0 };
+  answer = 0;
+  out = [];
+  code = None;
+}
 
 -- most bytes that are put out
 abbrev pub most_out : ℕ
@@ -42,8 +47,8 @@ with_registers s registers = record s { registers = registers }
 -- is built where the low 32 bits of x0 are descriptor 1 and the count x2 fits behind what was put out so far.
 abbrev pub entered : State → Option State
 entered s =
-  if read s.registers 8 == 93 then Some (record s { registers = moved_on s.registers 4; phase = Leave })
-  else (if (read s.registers 8 == 64) && ((read s.registers 0 % 2 ^ 32 == 1) && nat_le (length s.out + read s.registers 2) most_out)
+    if read s.registers 8 == 93 then Some (record s { registers = moved_on s.registers 4; phase = Leave })
+    else (if (read s.registers 8 == 64) && ((read s.registers 0 % 2 ^ 32 == 1) && nat_le (length s.out + read s.registers 2) most_out)
     then Some (record s { registers = moved_on s.registers 4; phase = Hold; piece = record { at = read s.registers 1; len = read s.registers 2 } })
     else None)
 
@@ -66,13 +71,17 @@ held s = record s { phase = (if s.piece.len == 0 then Look else Fetch) }
 -- Fetch: the piece is copied in whole, or where it isn't inside the segment the answer is EFAULT, which is -14
 abbrev pub fetched : ProgramView → State → State
 fetched program s =
-  if is_inside program s.piece.at s.piece.len then record s { phase = Look }
-  else record s { phase = Drop; answer = 2 ^ 64 - 14; piece = record { at = 0; len = 0 } }
+    if is_inside program s.piece.at s.piece.len then record s { phase = Look }
+    else record s { phase = Drop; answer = 2 ^ 64 - 14; piece = record { at = 0; len = 0 } }
 
 -- Look: the piece's bytes are put out, and the answer is their number
 abbrev pub looked : ProgramView → State → State
 looked program s = record s {
-  phase = Return; answer = s.piece.len; out = s.out ++ bytes_at program s.piece.at s.piece.len; piece = record { at = 0; len = 0 } }
+  phase = Return;
+  answer = s.piece.len;
+  out = s.out ++ bytes_at program s.piece.at s.piece.len;
+  piece = record { at = 0; len = 0 };
+}
 
 -- Return: the answer is put into x0
 abbrev pub returned : State → State

@@ -25,4 +25,4 @@ bytes_at program address len = padded len (take len (drop (address - program.at)
 -- the instruction word at an address, where all of it lies in the segment (what is behind the file's bytes reads 0)
 abbrev pub word_at : ProgramView → ℕ → Option ℕ
 word_at program address =
-  if is_inside program address 4 then Some (number_at program.bytes (address - program.at) 4) else None
+    if is_inside program address 4 then Some (number_at program.bytes (address - program.at) 4) else None

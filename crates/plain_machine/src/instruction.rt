@@ -91,10 +91,17 @@ pub fn decode(word: u32) -> Option<Instruction>
     let rd = register(word, 0);
     let rn = register(word, 5);
     if bits(word, 31, 23) == 0b110100101 {
-        return Some(Instruction::Move { rd, value: moved(word) });
+        return Some(Instruction::Move {
+            rd,
+            value: moved(word),
+        });
     }
     if bits(word, 31, 23) == 0b100100010 && !(rn == 31 || rd == 31) {
-        return Some(Instruction::Add { rd, rn, value: added(word) });
+        return Some(Instruction::Add {
+            rd,
+            rn,
+            value: added(word),
+        });
     }
     if bits(word, 31, 31) == 0 && bits(word, 28, 24) == 0b10000 {
         let offset = signed_21(u64::from(bits(word, 23, 5)) * 4 + u64::from(bits(word, 30, 29)));

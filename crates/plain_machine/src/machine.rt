@@ -13,6 +13,7 @@ use std::marker::Model;
 pub const ROOM: usize = 65_536;
 
 const CALL_WRITE: u64 = 64;
+
 const CALL_EXIT: u64 = 93;
 
 // The answer EFAULT, -14.
@@ -65,8 +66,11 @@ impl Model for Machine {
     ghost use Rattle.std.specs.Prelude.{◌≤◌, ◌+◌, length};
     ghost use Rattle.std.specs.Vec.{vec_capacity};
     ghost use Rattle.plain_machine.specs.Plain.{State};
+
     ghost Value = { State };
+
     ghost view = { λ m. record { registers = m.registers; phase = m.phase; piece = m.piece; answer = m.answer; out = m.out.items; code = m.code } };
+
     ghost invariant = { λ m. (length m.out.items + m.piece.len ≤ 65536) × (65536 ≤ vec_capacity m.out) };
 }
 
@@ -113,7 +117,11 @@ impl Machine {
     fn enter(&mut self) -> bool
         ensures { TriesTo (entered self.old) self.old result self.new }
     {
-        let (console, at, count) = (self.registers.get(0), self.registers.get(1), self.registers.get(2));
+        let (console, at, count) = (
+            self.registers.get(0),
+            self.registers.get(1),
+            self.registers.get(2),
+        );
         let room = (ROOM - self.out.len()) as u64;
         match self.registers.get(8) {
             CALL_EXIT => {
@@ -178,7 +186,11 @@ impl Machine {
     fn hold(&mut self)
         ensures { self.new ≡ held self.old }
     {
-        self.phase = if self.piece.len == 0 { Phase::Look } else { Phase::Fetch };
+        self.phase = if self.piece.len == 0 {
+            Phase::Look
+        } else {
+            Phase::Fetch
+        };
     }
 
     // Fetch: copies the piece in, or refuses it.

@@ -15,7 +15,9 @@ pub struct Program {
 
 impl Model for Program {
     ghost use Rattle.plain_machine.specs.Program.{ProgramView};
+
     ghost Value = { ProgramView };
+
     ghost view = { λ p. record { entry = p.entry; at = p.at; size = p.size; bytes = p.bytes.items } };
 }
 
