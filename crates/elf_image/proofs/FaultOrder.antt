@@ -1,0 +1,67 @@
+-- The first fault of a list, as a loop over it finds it.
+use Rattle.std.proofs.Common.{◌≡◌, ℕ, ◌+◌, ◌<◌, ◌≤◌, List, [], ◌∷◌, ◌++◌, length, get_or, take, drop, Option, Some, None, refl, sym, ap, ◌∙◌, arith, zero-add}
+use Rattle.std.specs.List.{enumerate_from}
+use Rattle.std.proofs.lemmas.List.{take_more, take_all, take-append-drop, length-map, get_or-map}
+use Rattle.std.proofs.lemmas.List.FromFn.{length-enumerate_from, get_or-enumerate_from}
+use Rattle.elf_image.specs.declared.fault.ElfFault.{ElfFault}
+use Rattle.elf_image.specs.declared.headers.ProgramHeader.{ProgramHeader}
+use Rattle.elf_image.specs.Faults.{first_fault}
+use Rattle.elf_image.specs.Rules.{faults_of, header_fault}
+
+-- behind rules that do not fail, the next one decides
+first_fault-push : (before : List (Option ElfFault)) (next : Option ElfFault) → first_fault before ≡ None → first_fault (before ++ next ∷ []) ≡ next
+first_fault-push [] None none = refl
+first_fault-push [] (Some fault) none = refl
+first_fault-push (None ∷ before) next none = first_fault-push before next none
+first_fault-push (Some fault ∷ before) next none = Prim.cc
+
+-- what comes behind a fault changes nothing
+first_fault-append : (before after : List (Option ElfFault)) (fault : ElfFault) → first_fault before ≡ Some fault → first_fault (before ++ after) ≡ Some fault
+first_fault-append [] after fault found = Prim.cc
+first_fault-append (None ∷ before) after fault found = first_fault-append before after fault found
+first_fault-append (Some other ∷ before) after fault found = found
+
+length-faults_of : (room : ℕ) (headers : List ProgramHeader) → length (faults_of room headers) ≡ length headers
+unfolding faults_of
+length-faults_of room headers =
+    length-map (enumerate_from 0 headers) (λ numbered. header_fault room (take numbered.0 headers) numbered.0 numbered.1)
+    ∙ length-enumerate_from 0 headers
+
+-- the fault of the header at a place
+faults_of-at : (room : ℕ) (headers : List ProgramHeader) (k : ℕ) (d : ProgramHeader) → k < length headers
+    → get_or (faults_of room headers) k None ≡ header_fault room (take k headers) k (get_or headers k d)
+unfolding faults_of
+faults_of-at room headers k d within =
+    let numbered_at : get_or (enumerate_from 0 headers) k (0, d) ≡ (k, get_or headers k d) =
+    get_or-enumerate_from 0 headers k (0, d) within ∙ ap (λ (n : ℕ). (n, get_or headers k d)) (zero-add k) in
+    get_or-map (λ numbered. header_fault room (take numbered.0 headers) numbered.0 numbered.1) (enumerate_from 0 headers) k (0, d) None
+    (omega (arith, length-enumerate_from 0 headers))
+    ∙ ap (λ (numbered : ℕ × ProgramHeader). header_fault room (take numbered.0 headers) numbered.0 numbered.1) numbered_at
+
+-- one header on: its fault is the first, where those before it have none
+pub first_fault-more : (room : ℕ) (headers : List ProgramHeader) (k : ℕ) (d : ProgramHeader) (found : Option ElfFault)
+    → k < length headers
+    → first_fault (take k (faults_of room headers)) ≡ None
+    → header_fault room (take k headers) k (get_or headers k d) ≡ found
+    → first_fault (take (k + 1) (faults_of room headers)) ≡ found
+first_fault-more room headers k d found within none here =
+    let faults = faults_of room headers in
+    let step = take_more faults k None (omega (arith, length-faults_of room headers)) in
+    ap first_fault step ∙ first_fault-push (take k faults) (get_or faults k None) none ∙ faults_of-at room headers k d within ∙ here
+
+-- a fault that is the first of some headers is the first of all
+pub first_fault-stop : (room : ℕ) (headers : List ProgramHeader) (k : ℕ) (d : ProgramHeader) (fault : ElfFault)
+    → k < length headers
+    → first_fault (take k (faults_of room headers)) ≡ None
+    → header_fault room (take k headers) k (get_or headers k d) ≡ Some fault
+    → first_fault (faults_of room headers) ≡ Some fault
+first_fault-stop room headers k d fault within none here =
+    let faults = faults_of room headers in
+    ap first_fault (sym (take-append-drop (k + 1) faults))
+    ∙ first_fault-append (take (k + 1) faults) (drop (k + 1) faults) fault (first_fault-more room headers k d (Some fault) within none here)
+
+-- no fault of a front that has all headers is none at all
+pub first_fault-end : (room : ℕ) (headers : List ProgramHeader) (k : ℕ) → length headers ≤ k
+    → first_fault (take k (faults_of room headers)) ≡ None → first_fault (faults_of room headers) ≡ None
+first_fault-end room headers k whole none =
+    ap first_fault (sym (take_all k (faults_of room headers) (omega (arith, length-faults_of room headers)))) ∙ none

@@ -1,0 +1,3 @@
+pub mod FaultOrder
+pub mod RuleKinds
+pub mod Tables

@@ -1,0 +1,5 @@
+pub mod Faults
+pub mod Spans
+pub mod Headers
+pub mod Rules
+pub mod Images
