@@ -28,7 +28,7 @@ length-faults_of room headers =
     ∙ length-enumerate_from 0 headers
 
 -- the fault of the header at a place
-faults_of-at : (room : ℕ) (headers : List ProgramHeader) (k : ℕ) (d : ProgramHeader) → k < length headers
+pub faults_of-at : (room : ℕ) (headers : List ProgramHeader) (k : ℕ) (d : ProgramHeader) → k < length headers
     → get_or (faults_of room headers) k None ≡ header_fault room (take k headers) k (get_or headers k d)
 unfolding faults_of
 faults_of-at room headers k d within =

@@ -3,3 +3,4 @@ pub mod Spans
 pub mod Headers
 pub mod Rules
 pub mod Images
+pub mod Layout

@@ -7,7 +7,7 @@ ghost use Rattle.elf_image.specs.declared.fault.ElfKind.TheVariants.{NoMemory};
 use std::alloc::{AllocError, AllocFailed};
 
 /// Why a file is refused.
-#[derive(Clone, Copy)]
+#[derive(Clone, Copy, Debug)]
 pub enum ElfKind {
     /// The file is shorter than a file header, or does not begin with the magic number.
     NotElf,
@@ -66,7 +66,7 @@ impl ElfKind {
 
 /// A refusal: why, and where. The place is an offset in the file, for the rules of a program header
 /// its index, and 0 for want of memory.
-#[derive(Clone, Copy)]
+#[derive(Clone, Copy, Debug)]
 pub struct ElfFault {
     pub kind: ElfKind,
     pub place: u64,

@@ -4,6 +4,7 @@ ghost use Rattle.std.specs.Prelude.{◌≡◌, ◌≢◌, ◌≤◌, length, All
 ghost use Rattle.elf_image.specs.Faults.{no_memory};
 ghost use Rattle.elf_image.specs.Headers.{program_headers};
 ghost use Rattle.elf_image.specs.Images.{headers_address, holds_headers, segment_of, segments_of, IsImage};
+ghost use Rattle.elf_image.specs.Layout.{IsLaidOut};
 ghost use Rattle.elf_image.specs.Rules.{image_fault, table_range, IsInside, MayLoad};
 ghost use Rattle.elf_image.specs.Spans.{end_of};
 
@@ -102,6 +103,7 @@ fn headers_address(room: usize, file_header: &FileHeader, headers: &[ProgramHead
 #[tactic(auto, using(crate::proofs::RuleKinds::kinds), unfolding(crate::specs::Rules::image_fault, crate::specs::Images::image_of))]
 pub fn read_image(alloc: Global, bytes: &[u8]) -> Result<Image, ElfFault>
     ensures ok { IfOk result (IsImage bytes.now) }
+    ensures laid_out { IfOk result IsLaidOut }
     ensures fault { IfErr result (λ fault. fault.kind ≢ ElfKind.NoMemory → image_fault bytes.now ≡ Some fault) }
     ensures memory { IfErr result (λ fault. fault.kind ≡ ElfKind.NoMemory → fault ≡ no_memory) }
     ensures complete { image_fault bytes.now ≡ None → IsOkUnless result no_memory }

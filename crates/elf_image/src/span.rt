@@ -1,8 +1,9 @@
 //! A range of bytes, in a file or in memory.
 
-ghost use Rattle.std.specs.Prelude.{◌≡◌};
+ghost use Rattle.std.specs.Prelude.{◌≡◌, ◌<◌};
+ghost use Rattle.std.specs.Bool.{OnFalse, OnTrue};
 ghost use Rattle.places.specs.Places.{page};
-ghost use Rattle.elf_image.specs.Spans.{end_of, first_page, holds, last_page, shares_page};
+ghost use Rattle.elf_image.specs.Spans.{end_of, first_page, holds, last_page, shares_page, AreApart, SharesPage};
 
 /// The bytes of a page.
 const PAGE_SIZE: u64 = 4096;
@@ -30,8 +31,11 @@ impl Span {
     }
 
     /// Whether some page has bytes of both ranges, neither of which is empty.
+    #[tactic(auto, using(crate::proofs::Pages::pages))]
     pub fn shares_page(self, other: Span) -> bool
-        ensures { result ≡ shares_page self other }
+        ensures value { result ≡ shares_page self other }
+        ensures apart { OnFalse result (AreApart self other) }
+        ensures shared { 0 < self.size → 0 < other.size → OnTrue result (SharesPage self other) }
     {
         self.first_page() <= other.last_page() && other.first_page() <= self.last_page()
     }
