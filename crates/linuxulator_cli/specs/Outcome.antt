@@ -163,9 +163,9 @@ StopsExactly words before now count end = (file : List ℕ) (program : ProgramVi
   IsReached words before count file program state → end ≢ WriteFault →
   (end ≡ NotBuilt state.registers.pc) ↔ ((count < FUEL) × (state.code ≡ None) × (step program state ≡ None))
 
--- with good words, a short and accepted image of one header, and no fault of the shelf or the sinks, the end is the run's,
--- or memory ran out
+-- with good words, a short and accepted image of one header, and no fault of the shelf or of standard output, the end is
+-- the run's, or memory ran out
 abbrev pub IsComplete : List (List ℕ) → Outside → Outside → ℕ → End → Type 0
 IsComplete words before now count end = (file : List ℕ) (program : ProgramView) → IsGiven words before.shelf now.shelf end file →
-  IsProgramOf file program → now.out.faults ≡ before.out.faults → now.err.faults ≡ before.err.faults →
+  IsProgramOf file program → now.out.faults ≡ before.out.faults →
   (how : RunEnd) × (state : State) × (end ≡ end_of how) × (plain program count ≡ Some state) × EndsBy program FUEL count state how

@@ -75,3 +75,46 @@ pub fn run_before_last_line<H: Shelf, O: Sink, E: Sink>(
         Err(Failed) => End::WriteFault.after(ran.count),
     }
 }
+
+/// Runs the program that the words name: `run IMAGE`, the words after the program's own name. It loads
+/// the image from the shelf, puts what the guest writes to standard output into `out`, and writes a last
+/// line to `err` where the guest didn't exit. `Definitions` of each clause stand in `specs/Outcome.antt`.
+pub fn run_program<H: Shelf, O: Sink, E: Sink>(
+    alloc: Global,
+    words: &[String],
+    shelf: &mut H,
+    out: &mut O,
+    err: &mut E,
+) -> Outcome
+    requires loads { H.loads shelf.old < 2 ^ 64 - 1 }
+    requires out { O.faults out.old < 2 ^ 64 - 1 }
+    requires err { E.faults err.old < 2 ^ 64 - 1 }
+    ensures status { result.status ≡ status_number result.end }
+
+    // Each end with its cause, and then the last line on `err` alone.
+    ensures outcome { IsProgram (map string_bytes words.now)
+        (record { shelf = shelf_view H.file H.loads H.saves shelf.old; out = sink_view O.taken O.faults out.old; err = sink_view E.taken E.faults err.old })
+        (record { shelf = shelf_view H.file H.loads H.saves shelf.new; out = sink_view O.taken O.faults out.new; err = sink_view E.taken E.faults err.new })
+        result.count result.end }
+
+    // Exactly where each end comes.
+    ensures usage { (fault : UsageFault) → (result.end ≡ End.Usage fault) ↔ (usage_fault (map string_bytes words.now) ≡ Some fault) }
+    ensures load { (result.end ≡ End.LoadFault) ↔ (H.loads shelf.old < H.loads shelf.new) }
+    ensures long { (file : List ℕ) → H.file shelf.old (image_name (map string_bytes words.now)) ≡ Some (Some file) →
+        usage_fault (map string_bytes words.now) ≡ None → H.loads shelf.new ≡ H.loads shelf.old → result.end ≢ End.NoMemory →
+        (result.end ≡ End.TooLong) ↔ (IMAGE_LIMIT < length file) }
+    ensures image { RefusesExactly (map string_bytes words.now) (shelf_view H.file H.loads H.saves shelf.old) (shelf_view H.file H.loads H.saves shelf.new) result.end }
+    ensures headers { RefusesHeaders (map string_bytes words.now) (shelf_view H.file H.loads H.saves shelf.old) (shelf_view H.file H.loads H.saves shelf.new) result.count result.end }
+    ensures exited { ExitsExactly (map string_bytes words.now) (shelf_view H.file H.loads H.saves shelf.old) result.count result.end }
+    ensures fuel { SpendsExactly (map string_bytes words.now) (shelf_view H.file H.loads H.saves shelf.old) result.count result.end }
+    ensures not_built { StopsExactly (map string_bytes words.now) (shelf_view H.file H.loads H.saves shelf.old) (shelf_view H.file H.loads H.saves shelf.new) result.count result.end }
+    ensures complete { IsComplete (map string_bytes words.now)
+        (record { shelf = shelf_view H.file H.loads H.saves shelf.old; out = sink_view O.taken O.faults out.old; err = sink_view E.taken E.faults err.old })
+        (record { shelf = shelf_view H.file H.loads H.saves shelf.new; out = sink_view O.taken O.faults out.new; err = sink_view E.taken E.faults err.new })
+        result.count result.end }
+{
+    let outcome = run_before_last_line(alloc, words, shelf, out, err);
+    let line = last_line(outcome.end);
+    put_some(err, line.as_bytes());
+    outcome
+}
