@@ -12,9 +12,10 @@ last n = digit_glyph false (n % 16)
 onto : (k n : ℕ) (acc : List ℕ) → digits_onto k 16 false n acc ≡ digits_onto k 16 false n [] ++ acc
 onto zero n acc = refl
 onto (suc k) n acc =
-  elim (n / 16 == 0) as (λ (b : Bool). (if b then last n ∷ acc else digits_onto k 16 false (n / 16) (last n ∷ acc)) ≡ (if b then last n ∷ [] else digits_onto k 16 false (n / 16) (last n ∷ [])) ++ acc)
-  [ true ↦ refl
-  | false ↦ onto k (n / 16) (last n ∷ acc) ∙ sym (append_assoc (digits_onto k 16 false (n / 16) []) (last n ∷ []) acc) ∙ ap (λ (xs : List ℕ). xs ++ acc) (sym (onto k (n / 16) (last n ∷ []))) ]
+    elim (n / 16 == 0) as (λ (b : Bool). (if b then last n ∷ acc else digits_onto k 16 false (n / 16) (last n ∷ acc)) ≡ (if b then last n ∷ [] else digits_onto k 16 false (n / 16) (last n ∷ [])) ++ acc) [
+      | true ↦ refl
+      | false ↦ onto k (n / 16) (last n ∷ acc) ∙ sym (append_assoc (digits_onto k 16 false (n / 16) []) (last n ∷ []) acc) ∙ ap (λ (xs : List ℕ). xs ++ acc) (sym (onto k (n / 16) (last n ∷ [])))
+    ]
 
 -- more digits
 pub more_digits : (k n : ℕ) → 1 < k → 16 ≤ n → digits_onto k 16 false n [] ≡ digits_onto (k - 1) 16 false (n / 16) [] ++ digit_glyph false (n % 16) ∷ []

@@ -133,12 +133,12 @@ pub record IsGiven (words : List (List ℕ)) (before now : ShelfView) (end : End
 -- a refused image exactly where a rule fails, with the fault of the first
 abbrev pub RefusesExactly : List (List ℕ) → ShelfView → ShelfView → End → Type 0
 RefusesExactly words before now end = (file : List ℕ) → IsGiven words before now end file → (fault : ElfFault) →
-  (end ≡ BadImage fault) ↔ (image_fault file ≡ Some fault)
+    (end ≡ BadImage fault) ↔ (image_fault file ≡ Some fault)
 
 -- an accepted image with other than one header isn't built, at 0 after no entry
 abbrev pub RefusesHeaders : List (List ℕ) → ShelfView → ShelfView → ℕ → End → Type 0
 RefusesHeaders words before now count end = (file : List ℕ) → IsGiven words before now end file → image_fault file ≡ None →
-  (image_of file).header_count ≢ 1 → (end ≡ NotBuilt 0) × (count ≡ 0)
+    (image_of file).header_count ≢ 1 → (end ≡ NotBuilt 0) × (count ≡ 0)
 
 -- the shelf tells the file, and this is its program's state after count entries
 pub record IsReached (words : List (List ℕ)) (before : ShelfView) (count : ℕ) (file : List ℕ) (program : ProgramView) (state : State) : Type 0 where
@@ -149,23 +149,23 @@ pub record IsReached (words : List (List ℕ)) (before : ShelfView) (count : ℕ
 -- an exit with a code exactly where that state has ended with it, unless a write failed
 abbrev pub ExitsExactly : List (List ℕ) → ShelfView → ℕ → End → Type 0
 ExitsExactly words before count end = (file : List ℕ) (program : ProgramView) (state : State) → IsReached words before count file program state →
-  end ≢ WriteFault → (code : ℕ) → (end ≡ Exited code) ↔ (state.code ≡ Some code)
+    end ≢ WriteFault → (code : ℕ) → (end ≡ Exited code) ↔ (state.code ≡ Some code)
 
 -- fuel spent exactly where that state, after so many entries, hasn't ended, unless a write failed
 abbrev pub SpendsExactly : List (List ℕ) → ShelfView → ℕ → End → Type 0
 SpendsExactly words before count end = (file : List ℕ) (program : ProgramView) (state : State) → IsReached words before count file program state →
-  end ≢ WriteFault → (end ≡ FuelSpent) ↔ ((count ≡ FUEL) × (state.code ≡ None))
+    end ≢ WriteFault → (end ≡ FuelSpent) ↔ ((count ≡ FUEL) × (state.code ≡ None))
 
 -- not built, with the state's pc, exactly where fuel is left, that state hasn't ended, and what stands at its pc isn't
 -- built, unless a write failed
 abbrev pub StopsExactly : List (List ℕ) → ShelfView → ShelfView → ℕ → End → Type 0
 StopsExactly words before now count end = (file : List ℕ) (program : ProgramView) (state : State) → IsGiven words before now end file →
-  IsReached words before count file program state → end ≢ WriteFault →
-  (end ≡ NotBuilt state.registers.pc) ↔ ((count < FUEL) × (state.code ≡ None) × (step program state ≡ None))
+    IsReached words before count file program state → end ≢ WriteFault →
+    (end ≡ NotBuilt state.registers.pc) ↔ ((count < FUEL) × (state.code ≡ None) × (step program state ≡ None))
 
 -- with good words, a short and accepted image of one header, and no fault of the shelf or of standard output, the end is
 -- the run's, or memory ran out
 abbrev pub IsComplete : List (List ℕ) → Outside → Outside → ℕ → End → Type 0
 IsComplete words before now count end = (file : List ℕ) (program : ProgramView) → IsGiven words before.shelf now.shelf end file →
-  IsProgramOf file program → now.out.faults ≡ before.out.faults →
-  (how : RunEnd) × (state : State) × (end ≡ end_of how) × (plain program count ≡ Some state) × EndsBy program FUEL count state how
+    IsProgramOf file program → now.out.faults ≡ before.out.faults →
+    (how : RunEnd) × (state : State) × (end ≡ end_of how) × (plain program count ≡ Some state) × EndsBy program FUEL count state how

@@ -21,7 +21,7 @@ segment_program entry segment = record { entry = entry; at = segment.at; size = 
 -- the program of an image with one header
 abbrev pub program_of : Image → Option ProgramView
 program_of image =
-  if image.header_count == 1 then option_map (segment_program image.entry) (slice_get image.segments 0) else None
+    if image.header_count == 1 then option_map (segment_program image.entry) (slice_get image.segments 0) else None
 
 -- the file is accepted as an image, and this is its program
 pub record IsProgramOf (file : List ℕ) (program : ProgramView) : Type 0 where

@@ -6,5 +6,5 @@ use Rattle.linuxulator_cli.proofs.lines.+add_digits.Goals as goal
 
 pub returns-then-number-ge16-clause-bytes : goal.returns-then-number-ge16-clause-bytes
 returns-then-number-ge16-clause-bytes t c =
-  let whole = more_digits c.args.places c.args.number (omega arith) (omega arith) in
-  rw whole (grind (arith, common_steps))
+    let whole = more_digits c.args.places c.args.number (omega arith) (omega arith) in
+    rw whole (grind (arith, common_steps))

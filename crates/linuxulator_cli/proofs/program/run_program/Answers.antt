@@ -8,7 +8,7 @@ returns-clause-outcome g c = record {
   mid = _;
   cause = c.run_before_last_line-outcome.ensures.cause;
   write_fault = c.run_before_last_line-outcome.ensures.write;
-  last = search rules
+  last = search rules;
 }
 
 pub returns-clause-complete : goal.returns-clause-complete
