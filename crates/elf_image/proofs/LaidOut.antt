@@ -1,7 +1,7 @@
 -- An accepted image is laid out in memory as `IsLaidOut` says.
-use Rattle.std.proofs.Common.{◌≡◌, ◌≢◌, ℕ, zero, suc, ◌+◌, ◌-◌, ◌*◌, ◌/◌, ◌%◌, ◌<◌, ◌≤◌, List, [], ◌∷◌, ◌++◌, length, get_or, take, drop, map, Bool, true, false, cond, not, ◌&&◌, ◌||◌, ◌==◌, Option, Some, None, refl, sym, ap, ◌∙◌, subst, arith, inl, inr, rules}
+use Rattle.std.proofs.Common.{◌≡◌, ℕ, zero, suc, ◌%◌, ◌<◌, ◌≤◌, List, [], ◌∷◌, length, get_or, take, map, Bool, true, false, not, ◌&&◌, ◌||◌, ◌==◌, Option, Some, None, refl, sym, ◌∙◌, subst, arith, inl, inr}
 use Rattle.std.specs.List.{All, Any, AllPairs, filter, list_any}
-use Rattle.std.proofs.lemmas.Bool.{and_parts, and_cases, or_parts, or_cases, cases_Bool, not-false, eqb-true}
+use Rattle.std.proofs.lemmas.Bool.{and_parts, or_parts, or_cases, cases_Bool, not-false, eqb-true}
 use Rattle.std.proofs.lemmas.Bool.Decides.{nat_tests}
 use Rattle.std.proofs.lemmas.List.{get_or-take, length-take}
 use Rattle.std.proofs.lemmas.List.Elements.{All-cons}
@@ -10,7 +10,6 @@ use Rattle.elf_image.specs.declared.fault.ElfFault.{ElfFault}
 use Rattle.elf_image.specs.declared.fault.ElfKind.{ElfKind}
 use Rattle.elf_image.specs.declared.fault.ElfKind.TheVariants.{WriteAndExecute, SegmentOutside, SegmentsOverlap, EntryOutside}
 use Rattle.elf_image.specs.declared.headers.ProgramHeader.{ProgramHeader}
-use Rattle.elf_image.specs.declared.parts.Segment.{Segment}
 use Rattle.elf_image.specs.declared.parts.Image.{Image}
 use Rattle.elf_image.specs.Faults.{fault_if, first_fault}
 use Rattle.elf_image.specs.declared.span.Span.{Span}
