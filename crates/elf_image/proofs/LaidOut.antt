@@ -1,7 +1,7 @@
 -- An accepted image is laid out in memory as `IsLaidOut` says.
-use Rattle.std.proofs.Common.{◌≡◌, ◌≢◌, ℕ, zero, suc, ◌+◌, ◌-◌, ◌*◌, ◌/◌, ◌%◌, ◌<◌, ◌≤◌, List, [], ◌∷◌, ◌++◌, length, get_or, take, drop, map, Bool, true, false, cond, not, ◌&&◌, ◌||◌, ◌==◌, Option, Some, None, refl, sym, ap, ◌∙◌, subst, arith, inl, inr, rules}
+use Rattle.std.proofs.Common.{◌≡◌, ℕ, zero, suc, ◌%◌, ◌<◌, ◌≤◌, List, [], ◌∷◌, length, get_or, take, map, Bool, true, false, not, ◌&&◌, ◌||◌, ◌==◌, Option, Some, None, refl, sym, ◌∙◌, subst, arith, inl, inr}
 use Rattle.std.specs.List.{All, Any, AllPairs, filter, list_any}
-use Rattle.std.proofs.lemmas.Bool.{and_parts, and_cases, or_parts, or_cases, cases_Bool, not-false, eqb-true}
+use Rattle.std.proofs.lemmas.Bool.{and_parts, or_parts, or_cases, cases_Bool, not-false, eqb-true}
 use Rattle.std.proofs.lemmas.Bool.Decides.{nat_tests}
 use Rattle.std.proofs.lemmas.List.{get_or-take, length-take}
 use Rattle.std.proofs.lemmas.List.Elements.{All-cons}
@@ -10,13 +10,12 @@ use Rattle.elf_image.specs.declared.fault.ElfFault.{ElfFault}
 use Rattle.elf_image.specs.declared.fault.ElfKind.{ElfKind}
 use Rattle.elf_image.specs.declared.fault.ElfKind.TheVariants.{WriteAndExecute, SegmentOutside, SegmentsOverlap, EntryOutside}
 use Rattle.elf_image.specs.declared.headers.ProgramHeader.{ProgramHeader}
-use Rattle.elf_image.specs.declared.parts.Segment.{Segment}
 use Rattle.elf_image.specs.declared.parts.Image.{Image}
 use Rattle.elf_image.specs.Faults.{fault_if, first_fault}
 use Rattle.elf_image.specs.declared.span.Span.{Span}
 use Rattle.elf_image.specs.Spans.{shares_page, holds, AreApart}
 use Rattle.elf_image.specs.Headers.{file_header, headers_of}
-use Rattle.elf_image.specs.Rules.{is_segment, is_executable, is_writable, is_outside, memory_range, overlaps, interpreter, write_and_execute, segment_outside, segments_overlap, file_header_fault, header_fault, faults_of, entry_outside, holds_instruction, image_fault, IsInside}
+use Rattle.elf_image.specs.Rules.{is_segment, is_executable, is_writable, is_outside, memory_range, overlaps, interpreter, write_and_execute, segment_outside, segments_overlap, file_header_fault, header_fault, faults_of, entry_outside, holds_instruction, image_fault, IsInMemory}
 use Rattle.elf_image.specs.Images.{segment_of, segments_of, image_of, IsImage}
 use Rattle.elf_image.specs.Layout.{addresses_of, IsPlaced, HoldsInstruction, IsLaidOut}
 use Rattle.elf_image.proofs.Pages.{AreApart-from_shares_page}
@@ -41,20 +40,20 @@ none_at (None ∷ rest) (suc k) none = none_at rest k none
 none_at (Some fault ∷ rest) k none = cc
 
 -- what the rules of a program header say of a segment
-pub record KeepsRules (room : ℕ) (earlier : List ProgramHeader) (header : ProgramHeader) : Type 0 where
+pub record KeepsRules (file_length : ℕ) (earlier : List ProgramHeader) (header : ProgramHeader) : Type 0 where
   pub rights : (is_writable header && is_executable header) ≡ false
-  pub inside : is_outside room header ≡ false
+  pub inside : is_outside file_length header ≡ false
   pub apart : list_any (overlaps header) earlier ≡ false
 
 right_false : (a b : Bool) → (a && b) ≡ false → a ≡ true → b ≡ false
 right_false true b both left = both
 right_false false b both left = cc
 
-segment_keeps : (room : ℕ) (earlier : List ProgramHeader) (index : ℕ) (header : ProgramHeader)
-    → header_fault room earlier index header ≡ None → is_segment header ≡ true → KeepsRules room earlier header
+segment_keeps : (file_length : ℕ) (earlier : List ProgramHeader) (index : ℕ) (header : ProgramHeader)
+    → header_fault file_length earlier index header ≡ None → is_segment header ≡ true → KeepsRules file_length earlier header
 unfolding header_fault
-segment_keeps room earlier index header none segment =
-    let outside = segment_outside room index header in
+segment_keeps file_length earlier index header none segment =
+    let outside = segment_outside file_length index header in
     let overlap = segments_overlap earlier index header in
     let at_rights = none_first (interpreter index header) (write_and_execute index header ∷ outside ∷ overlap ∷ []) none in
     let at_outside = none_first (write_and_execute index header) (outside ∷ overlap ∷ []) at_rights.1 in
@@ -64,22 +63,22 @@ segment_keeps room earlier index header none segment =
     right_false (is_segment header) found (holds_if (is_segment header && found) kind index is) segment in
     record {
       rights = test (is_writable header && is_executable header) WriteAndExecute at_outside.0;
-      inside = test (is_outside room header) SegmentOutside at_overlap.0;
+      inside = test (is_outside file_length header) SegmentOutside at_overlap.0;
       apart = test (list_any (overlaps header) earlier) SegmentsOverlap last.0;
     }
 
 -- each segment of a file without faults keeps them
-keeps_at : (room : ℕ) (headers : List ProgramHeader) → first_fault (faults_of room headers) ≡ None
+keeps_at : (file_length : ℕ) (headers : List ProgramHeader) → first_fault (faults_of file_length headers) ≡ None
     → (k : ℕ) (d : ProgramHeader) → k < length headers → is_segment (get_or headers k d) ≡ true
-    → KeepsRules room (take k headers) (get_or headers k d)
-keeps_at room headers none k d within segment =
-    segment_keeps room (take k headers) k (get_or headers k d) (sym (faults_of-at room headers k d within) ∙ none_at (faults_of room headers) k none) segment
+    → KeepsRules file_length (take k headers) (get_or headers k d)
+keeps_at file_length headers none k d within segment =
+    segment_keeps file_length (take k headers) k (get_or headers k d) (sym (faults_of-at file_length headers k d within) ∙ none_at (faults_of file_length headers) k none) segment
 
 -- ---- what they mean in memory
 
--- a header that is not outside is inside
-inside_from : (room : ℕ) (header : ProgramHeader) → is_outside room header ≡ false → IsInside room header
-inside_from room header inside = record { in_file = grind (arith, nat_tests); in_memory = grind (arith, nat_tests); low = grind (arith, nat_tests); high = grind (arith, nat_tests) }
+-- where a header that is not outside lies in memory
+inside_from : (file_length : ℕ) (header : ProgramHeader) → is_outside file_length header ≡ false → IsInMemory header
+inside_from file_length header inside = record { room = grind (arith, nat_tests); low = grind (arith, nat_tests); high = grind (arith, nat_tests) }
 
 -- a segment has bytes in memory
 some_from : (header : ProgramHeader) → header.file_size ≤ header.memory_size → is_segment header ≡ true → 0 < header.memory_size
@@ -93,7 +92,7 @@ placed : (file : List ℕ) (earlier : List ProgramHeader) (header : ProgramHeade
 placed file earlier header segment keeps =
     let inside = inside_from (length file) header keeps.inside in
     record {
-      some = some_from header inside.in_memory segment;
+      some = some_from header inside.room segment;
       room = simp length-take (omega arith);
       low = inside.low;
       high = inside.high;

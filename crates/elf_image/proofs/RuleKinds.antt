@@ -40,15 +40,15 @@ rule_file_header : (file : List ℕ) → IsRule (file_header_fault file)
 unfolding file_header_fault IsRuleKind
 rule_file_header file = search (rule_first, rule_none, rule_if) depth 20
 
-rule_header : (room : ℕ) (earlier : List ProgramHeader) (index : ℕ) (header : ProgramHeader) → IsRule (header_fault room earlier index header)
+rule_header : (file_length : ℕ) (earlier : List ProgramHeader) (index : ℕ) (header : ProgramHeader) → IsRule (header_fault file_length earlier index header)
 unfolding header_fault IsRuleKind
-rule_header room earlier index header = search (rule_first, rule_none, rule_if) depth 12
+rule_header file_length earlier index header = search (rule_first, rule_none, rule_if) depth 12
 
-rule_headers : (room : ℕ) (headers : List ProgramHeader) → IsRule (first_fault (faults_of room headers))
+rule_headers : (file_length : ℕ) (headers : List ProgramHeader) → IsRule (first_fault (faults_of file_length headers))
 unfolding faults_of
-rule_headers room headers =
-    rule_each (λ numbered. header_fault room (take numbered.0 headers) numbered.0 numbered.1)
-    (λ numbered. rule_header room (take numbered.0 headers) numbered.0 numbered.1)
+rule_headers file_length headers =
+    rule_each (λ numbered. header_fault file_length (take numbered.0 headers) numbered.0 numbered.1)
+    (λ numbered. rule_header file_length (take numbered.0 headers) numbered.0 numbered.1)
     (enumerate_from 0 headers)
 
 rule_entry : (entry : ℕ) (headers : List ProgramHeader) → IsRule (entry_outside entry headers)
@@ -73,9 +73,9 @@ from_rule found fault rule same = not_memory fault.kind (subst IsRule same rule)
 pub file_header_fault-not_memory : (file : List ℕ) (fault : ElfFault) → file_header_fault file ≡ Some fault → fault.kind ≢ NoMemory
 file_header_fault-not_memory file fault = from_rule (file_header_fault file) fault (rule_file_header file)
 
-pub faults_of-not_memory : (room : ℕ) (headers : List ProgramHeader) (fault : ElfFault)
-    → first_fault (faults_of room headers) ≡ Some fault → fault.kind ≢ NoMemory
-faults_of-not_memory room headers fault = from_rule (first_fault (faults_of room headers)) fault (rule_headers room headers)
+pub faults_of-not_memory : (file_length : ℕ) (headers : List ProgramHeader) (fault : ElfFault)
+    → first_fault (faults_of file_length headers) ≡ Some fault → fault.kind ≢ NoMemory
+faults_of-not_memory file_length headers fault = from_rule (first_fault (faults_of file_length headers)) fault (rule_headers file_length headers)
 
 pub entry_outside-not_memory : (entry : ℕ) (headers : List ProgramHeader) (fault : ElfFault)
     → entry_outside entry headers ≡ Some fault → fault.kind ≢ NoMemory

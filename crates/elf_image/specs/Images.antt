@@ -46,7 +46,8 @@ image_of file = record {
   segments = segments_of file (headers_of file);
 }
 
--- the file is accepted as this image: no rule fails, and the image is the one that the file is
+-- The file is accepted as this image: no rule fails, and the image is the one that the file is. (The type of an image
+-- has the name Image, so the relation begins with Is.)
 pub record IsImage (file : List ℕ) (image : Image) : Type 0 where
   pub accepted : image_fault file ≡ None
   pub read : image ≡ image_of file

@@ -1,7 +1,7 @@
 -- The rules that an image keeps, in their order, each with the kind and the place of its fault. The first that fails decides.
 -- Source: ELF-64 Object File Format, "ELF Header" and "Program Header Table"; which files are taken, of those that
 -- the format allows, is this project's own: static programs for arm64, with no interpreter, below 0x7f0000000000.
-use Rattle.std.specs.Prelude.{ℕ, ◌+◌, ◌*◌, ◌%◌, ◌≤◌, Bool, not, ◌&&◌, ◌||◌, ◌==◌, nat_eq, nat_lt, List, [], ◌∷◌, length, IsTrue, map, take, codes, bit_and, Option}
+use Rattle.std.specs.Prelude.{ℕ, ◌*◌, ◌%◌, ◌≤◌, Bool, not, ◌&&◌, ◌||◌, ◌==◌, nat_eq, nat_lt, List, [], ◌∷◌, length, IsTrue, map, take, codes, bit_and, Option}
 use Rattle.std.specs.List.{list_any, starts_with, enumerate_from}
 use Rattle.elf_image.specs.declared.fault.ElfFault.{ElfFault}
 use Rattle.elf_image.specs.declared.fault.ElfKind.TheVariants.{NotElf, WrongClass, WrongType, WrongMachine, TooManySegments, HeaderOutside, Interpreter, WriteAndExecute, SegmentOutside, SegmentsOverlap, EntryOutside}
@@ -92,29 +92,31 @@ abbrev pub write_and_execute : ℕ → ProgramHeader → Option ElfFault
 write_and_execute index header =
     fault_if (is_segment header && (is_writable header && is_executable header)) WriteAndExecute index
 
--- the file range passes the file or the memory range, or the memory range leaves 0x10000 to 0x7f0000000000.
--- `room` is the number of bytes of the file.
+-- the file range passes the file or the memory range, or the memory range leaves 0x10000 to 0x7f0000000000
 abbrev pub is_outside : ℕ → ProgramHeader → Bool
-is_outside room header =
-    nat_lt room (end_of (file_range header))
+is_outside file_length header =
+    nat_lt file_length (end_of (file_range header))
     || nat_lt header.memory_size header.file_size
     || nat_lt header.address 0x10000
     || nat_lt 0x7f0000000000 (end_of (memory_range header))
 
--- what is_outside refuses, as facts
-pub record IsInside (room : ℕ) (header : ProgramHeader) : Type 0 where
-  pub in_file : header.offset + header.file_size ≤ room
-  pub in_memory : header.file_size ≤ header.memory_size
-  pub low : 0x10000 ≤ header.address
-  pub high : header.address + header.memory_size ≤ 0x7f0000000000
+-- what holds of a segment that is not outside: where it lies in the file, and where in memory
+abbrev pub IsInFile : ℕ → ProgramHeader → Type 0
+IsInFile file_length header = end_of (file_range header) ≤ file_length
 
--- a header that is no segment, or a segment that is not outside
-abbrev pub MayLoad : ℕ → ProgramHeader → Type 0
-MayLoad room header = IsTrue (is_segment header) → IsInside room header
+pub record IsInMemory (header : ProgramHeader) : Type 0 where
+  pub room : header.file_size ≤ header.memory_size
+  pub low : 0x10000 ≤ header.address
+  pub high : end_of (memory_range header) ≤ 0x7f0000000000
+
+-- P holds of a header if it is a segment
+abbrev pub IfSegment : (ProgramHeader → Type 0) → ProgramHeader → Type 0
+IfSegment P header = IsTrue (is_segment header) → P header
 
 -- a segment lies in the file and in memory where it may
 abbrev pub segment_outside : ℕ → ℕ → ProgramHeader → Option ElfFault
-segment_outside room index header = fault_if (is_segment header && is_outside room header) SegmentOutside index
+segment_outside file_length index header =
+    fault_if (is_segment header && is_outside file_length header) SegmentOutside index
 
 -- whether a segment has a page in common with an earlier one
 abbrev pub overlaps : ProgramHeader → ProgramHeader → Bool
@@ -125,20 +127,20 @@ abbrev pub segments_overlap : List ProgramHeader → ℕ → ProgramHeader → O
 segments_overlap earlier index header =
     fault_if (is_segment header && list_any (overlaps header) earlier) SegmentsOverlap index
 
--- the fault of one program header, by its index and the headers before it
+-- the fault of one program header, by the length of the file, the headers before it and its index
 unfoldable pub header_fault : ℕ → List ProgramHeader → ℕ → ProgramHeader → Option ElfFault
-header_fault room earlier index header =
+header_fault file_length earlier index header =
     first_fault
     (interpreter index header
     ∷ write_and_execute index header
-    ∷ segment_outside room index header
+    ∷ segment_outside file_length index header
     ∷ segments_overlap earlier index header
     ∷ [])
 
 -- the faults of the program headers, one for each, in their order
 unfoldable pub faults_of : ℕ → List ProgramHeader → List (Option ElfFault)
-faults_of room headers =
-    map (λ numbered. header_fault room (take numbered.0 headers) numbered.0 numbered.1) (enumerate_from 0 headers)
+faults_of file_length headers =
+    map (λ numbered. header_fault file_length (take numbered.0 headers) numbered.0 numbered.1) (enumerate_from 0 headers)
 
 -- ---- the entry
 

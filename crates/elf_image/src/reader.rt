@@ -5,7 +5,7 @@ ghost use Rattle.elf_image.specs.Faults.{no_memory};
 ghost use Rattle.elf_image.specs.Headers.{program_headers};
 ghost use Rattle.elf_image.specs.Images.{headers_address, holds_headers, segment_of, segments_of, IsImage};
 ghost use Rattle.elf_image.specs.Layout.{IsLaidOut};
-ghost use Rattle.elf_image.specs.Rules.{image_fault, table_range, IsInside, MayLoad};
+ghost use Rattle.elf_image.specs.Rules.{file_range, image_fault, table_range, IfSegment, IsInFile, IsInMemory};
 ghost use Rattle.elf_image.specs.Spans.{end_of};
 
 use crate::cursor::Cursor;
@@ -38,7 +38,7 @@ fn read_program_headers(
 
 /// The segment of a program header, with its bytes in the file.
 fn copy_segment(alloc: Global, file: &[u8], header: &ProgramHeader) -> Result<Segment, AllocError>
-    requires { IsInside (length file.now) header.now }
+    requires { IsInFile (length file.now) header.now }
     ensures { IfOk result (λ segment. segment ≡ segment_of file.now header.now) }
 {
     let start = header.offset as usize;
@@ -60,7 +60,7 @@ fn copy_segments(
     file: &[u8],
     headers: &[ProgramHeader],
 ) -> Result<Vec<Segment>, AllocError>
-    requires { All (MayLoad (length file.now)) headers.now }
+    requires { All (IfSegment (IsInFile (length file.now))) headers.now }
     ensures { IfOk result (λ segments. segments.items ≡ segments_of file.now headers.now) }
 {
     let mut segments = Vec::new(alloc);
@@ -83,8 +83,8 @@ impl ProgramHeader {
 
 /// The address of the program headers in the first segment whose file range holds them all, or 0.
 #[tactic(auto, unfolding(crate::specs::Images::headers_address))]
-fn headers_address(room: usize, file_header: &FileHeader, headers: &[ProgramHeader]) -> u64
-    requires { All (MayLoad room) headers.now }
+fn headers_address(file_header: &FileHeader, headers: &[ProgramHeader]) -> u64
+    requires { All (IfSegment IsInMemory) headers.now }
     ensures { result ≡ headers_address file_header.now headers.now }
 {
     for header in headers {
@@ -115,7 +115,7 @@ pub fn read_image(alloc: Global, bytes: &[u8]) -> Result<Image, ElfFault>
     let segments = copy_segments(alloc, bytes, &headers)?;
     Ok(Image {
         entry: header.entry,
-        headers_at: headers_address(bytes.len(), &header, &headers),
+        headers_at: headers_address(&header, &headers),
         header_count: header.header_count,
         segments: Segments::from_vec(segments),
     })

@@ -6,7 +6,7 @@ ghost use Rattle.std.specs.Bool.{OnFalse};
 ghost use Rattle.std.specs.List.{list_any};
 ghost use Rattle.elf_image.specs.Faults.{first_fault};
 ghost use Rattle.elf_image.specs.Headers.{file_header};
-ghost use Rattle.elf_image.specs.Rules.{entry_outside, faults_of, file_header_fault, header_fault, holds_instruction, is_executable, is_outside, is_writable, overlaps, table_range, IsInside, MayLoad};
+ghost use Rattle.elf_image.specs.Rules.{entry_outside, faults_of, file_header_fault, header_fault, holds_instruction, is_executable, is_outside, is_writable, overlaps, table_range, IfSegment, IsInFile, IsInMemory};
 ghost use Rattle.elf_image.specs.Spans.{end_of};
 
 use crate::fault::{ElfFault, ElfKind};
@@ -105,12 +105,13 @@ impl ProgramHeader {
         self.is_writable() && self.is_executable()
     }
 
-    /// Whether the segment does not lie in a file of `room` bytes, or not in memory where it may.
-    fn is_outside(&self, room: usize) -> bool
-        ensures value { result ≡ is_outside room self.now }
-        ensures inside { OnFalse result (IsInside room self.now) }
+    /// Whether the segment does not lie in a file of this length, or not in memory where it may.
+    fn is_outside(&self, file_length: usize) -> bool
+        ensures value { result ≡ is_outside file_length self.now }
+        ensures in_file { OnFalse result (IsInFile file_length self.now) }
+        ensures in_memory { OnFalse result (IsInMemory self.now) }
     {
-        self.file_range().end() > room as u128
+        self.file_range().end() > file_length as u128
             || self.memory_size < self.file_size
             || self.address < LOWEST_ADDRESS
             || self.memory_range().end() > u128::from(ADDRESS_LIMIT)
@@ -141,11 +142,12 @@ impl ProgramHeader {
         self.is_segment() && self.is_executable() && self.memory_range().holds(instruction)
     }
 
-    /// The fault of this program header, by the size of the file, the headers before it and its index.
+    /// The fault of this program header, by the length of the file, the headers before it and its index.
     #[tactic(auto, unfolding(crate::specs::Rules::header_fault))]
-    fn fault(&self, room: usize, earlier: &[ProgramHeader], index: u64) -> Option<ElfFault>
-        ensures fault { result ≡ header_fault room earlier.now index self.now }
-        ensures inside { IfNone result (MayLoad room self.now) }
+    fn fault(&self, file_length: usize, earlier: &[ProgramHeader], index: u64) -> Option<ElfFault>
+        ensures fault { result ≡ header_fault file_length earlier.now index self.now }
+        ensures in_file { IfNone result (IfSegment (IsInFile file_length) self.now) }
+        ensures in_memory { IfNone result (IfSegment IsInMemory self.now) }
     {
         if self.kind == PT_INTERP {
             return Some(ElfKind::Interpreter.at(index));
@@ -156,7 +158,7 @@ impl ProgramHeader {
         if self.is_writable_code() {
             return Some(ElfKind::WriteAndExecute.at(index));
         }
-        if self.is_outside(room) {
+        if self.is_outside(file_length) {
             return Some(ElfKind::SegmentOutside.at(index));
         }
         if self.overlaps_any(earlier) {
@@ -166,13 +168,14 @@ impl ProgramHeader {
     }
 }
 
-/// Checks the program headers of a file of `room` bytes, in their order.
-pub fn check_headers(room: usize, headers: &[ProgramHeader]) -> Result<(), ElfFault>
-    ensures fault { MatchResult result (λ _. first_fault (faults_of room headers.now) ≡ None) (λ fault. first_fault (faults_of room headers.now) ≡ Some fault) }
-    ensures inside { OnOk result (All (MayLoad room) headers.now) }
+/// Checks the program headers of a file of this length, in their order.
+pub fn check_headers(file_length: usize, headers: &[ProgramHeader]) -> Result<(), ElfFault>
+    ensures fault { MatchResult result (λ _. first_fault (faults_of file_length headers.now) ≡ None) (λ fault. first_fault (faults_of file_length headers.now) ≡ Some fault) }
+    ensures in_file { OnOk result (All (IfSegment (IsInFile file_length)) headers.now) }
+    ensures in_memory { OnOk result (All (IfSegment IsInMemory) headers.now) }
 {
     for (index, header) in headers.iter().enumerate() {
-        if let Some(fault) = header.fault(room, &headers[..index], index as u64) {
+        if let Some(fault) = header.fault(file_length, &headers[..index], index as u64) {
             return Err(fault);
         }
     }

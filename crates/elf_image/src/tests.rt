@@ -1,6 +1,7 @@
 //! The worked runs of images, and cases of each rule.
 
 use crate::headers::ProgramHeader;
+use crate::parts::Segment;
 use crate::read_image;
 use std::alloc::{AllocError, Global};
 use std::process::Abort;
@@ -32,9 +33,10 @@ fn put(file: &mut [u8], (place, size, value): Change) {
     }
 }
 
-/// E1 with these changes.
-fn changed(alloc: Global, changes: &[Change]) -> Result<Vec<u8>, AllocError> {
+/// E1 with these changes, cut to a length or with zeros up to it.
+fn changed(alloc: Global, changes: &[Change], length: usize) -> Result<Vec<u8>, AllocError> {
     let mut file = Vec::from_slice(alloc, &E1)?;
+    file.resize(length, 0)?;
     for &change in changes {
         put(&mut file, change);
     }
@@ -81,35 +83,13 @@ fn empty_file_is_not_elf(rt: HostRuntime) {
 
 #[test]
 fn segment_past_file(rt: HostRuntime) -> Result<(), Fail> {
-    let file = changed(rt.alloc(), &[(96, 8, 133), (104, 8, 133)])?;
+    let file = changed(rt.alloc(), &[(96, 8, 133), (104, 8, 133)], 132)?;
     expect_refused(&rt, rt.alloc(), &file, "segment outside", 0);
     Ok(())
 }
 
-/// E1 cut to each of its lengths, with flags 7, and with an entry that is unaligned or past its segment.
-#[test]
-fn damaged_image(rt: HostRuntime) -> Result<(), Fail> {
-    for length in 0..E1.len() {
-        let (text, place) = match length {
-            0..64 => ("not an ELF file", 0),
-            64..120 => ("header outside", 32),
-            _ => ("segment outside", 0),
-        };
-        expect_refused(&rt, rt.alloc(), &E1[..length], text, place);
-    }
-    for (change, text, place) in [
-        ((68, 4, 7), "write and execute", 0),
-        ((24, 8, 0x40007a), "entry outside", 24),
-        ((24, 8, 0x400084), "entry outside", 24),
-    ] {
-        let file = changed(rt.alloc(), &[change])?;
-        expect_refused(&rt, rt.alloc(), &file, text, place);
-    }
-    Ok(())
-}
-
 /// Changes of E1 that each break one rule, or two, of which the first counts.
-const BROKEN: [(Change, &str, u64); 31] = [
+const BROKEN: [(Change, &str, u64); 34] = [
     ((0, 1, 0x7e), "not an ELF file", 0),
     ((3, 1, 0x47), "not an ELF file", 0),
     ((4, 1, 1), "wrong class", 4),
@@ -128,6 +108,7 @@ const BROKEN: [(Change, &str, u64); 31] = [
     ((64, 4, 3), "interpreter", 0),
     ((64, 8, 0x7_0000_0003), "interpreter", 0),
     ((68, 4, 3), "write and execute", 0),
+    ((68, 4, 7), "write and execute", 0),
     ((72, 8, 1), "segment outside", 0),
     ((72, 8, u64::MAX), "segment outside", 0),
     ((96, 8, u64::MAX), "segment outside", 0),
@@ -140,13 +121,24 @@ const BROKEN: [(Change, &str, u64); 31] = [
     ((68, 4, 6), "entry outside", 24),
     ((64, 4, 4), "entry outside", 24),
     ((56, 2, 0), "entry outside", 24),
+    ((24, 8, 0x40007a), "entry outside", 24),
+    ((24, 8, 0x400084), "entry outside", 24),
     ((24, 8, 0xffff_ffff_ffff_fffc), "entry outside", 24),
 ];
 
+/// E1 cut to each length below its own, and with each change of `BROKEN`.
 #[test]
-fn first_broken_rule(rt: HostRuntime) -> Result<(), Fail> {
+fn damaged_image(rt: HostRuntime) -> Result<(), Fail> {
+    for length in 0..E1.len() {
+        let (text, place) = match length {
+            0..64 => ("not an ELF file", 0),
+            64..120 => ("header outside", 32),
+            _ => ("segment outside", 0),
+        };
+        expect_refused(&rt, rt.alloc(), &E1[..length], text, place);
+    }
     for &(change, text, place) in BROKEN.iter() {
-        let file = changed(rt.alloc(), &[change])?;
+        let file = changed(rt.alloc(), &[change], E1.len())?;
         expect_refused(&rt, rt.alloc(), &file, text, place);
     }
     Ok(())
@@ -155,16 +147,23 @@ fn first_broken_rule(rt: HostRuntime) -> Result<(), Fail> {
 #[test]
 fn image_of_e1(rt: HostRuntime) -> Result<(), Fail> {
     let image = read_image(rt.alloc(), &E1)?;
-    assert_eq!(rt; image.entry, 0x400078);
-    assert_eq!(rt; image.headers_at, 0x400040);
-    assert_eq!(rt; image.header_count, 1);
-    let segments = image.segments.into_vec();
-    assert_eq!(rt; segments.len(), 1);
-    let segment = &segments[0];
-    assert_eq!(rt; segment.at, 0x400000);
-    assert_eq!(rt; segment.size, 132);
-    assert_eq!(rt; segment.bytes.as_slice(), E1.as_slice());
-    assert!(rt; segment.read && !segment.write && segment.execute);
+    assert_eq!(rt;
+        (image.entry, image.headers_at, image.header_count),
+        (0x400078, 0x400040, 1)
+    );
+    let mut segments = image.segments.into_vec();
+    let Segment {
+        at,
+        size,
+        bytes,
+        read,
+        write,
+        execute,
+    } = segments.pop().ok_or("no segment")?;
+    assert!(rt; segments.is_empty());
+    assert_eq!(rt; (at, size), (0x400000, 132));
+    assert_eq!(rt; bytes.into_vec().as_slice(), E1.as_slice());
+    assert_eq!(rt; (read, write, execute), (true, false, true));
     Ok(())
 }
 
@@ -243,34 +242,68 @@ fn image_of_a_linked_file(rt: HostRuntime) -> Result<(), Fail> {
     Ok(())
 }
 
-/// A second segment on the page of the first, though its addresses are free, and on the next page.
+/// A second segment on the page of the first, though at addresses of its own, and on the next page.
 #[test]
 fn segments_share_no_page(rt: HostRuntime) -> Result<(), Fail> {
-    let mut second = DATA;
-    second.address = 0x400800;
-    let file = file_of(rt.alloc(), &[CODE, EMPTY, second])?;
+    let on_page = [
+        CODE,
+        EMPTY,
+        ProgramHeader {
+            address: 0x400800,
+            ..DATA
+        },
+    ];
+    let file = file_of(rt.alloc(), &on_page)?;
     expect_refused(&rt, rt.alloc(), &file, "segments overlap", 2);
-    second.address = 0x401000;
-    let file = file_of(rt.alloc(), &[CODE, EMPTY, second])?;
-    assert_eq!(rt; read_image(rt.alloc(), &file)?.segments.as_slice().len(), 2);
+    let on_next = [
+        CODE,
+        EMPTY,
+        ProgramHeader {
+            address: 0x401000,
+            ..DATA
+        },
+    ];
+    let file = file_of(rt.alloc(), &on_next)?;
+    assert!(rt; read_image(rt.alloc(), &file).is_ok());
     Ok(())
 }
 
-/// Files at the edge of a rule: an entry behind the bytes in the file, an end at the highest address,
+/// Files that are accepted at the edge of a rule, by their changes, their length and the entry and the
+/// address of the headers: an entry behind the bytes in the file, an end at the highest address,
 /// headers that no segment holds, and 64 headers.
+const EDGES: [([Change; 3], usize, (u64, u64)); 4] = [
+    (
+        [(24, 8, 0x400ffc), (104, 8, 0x1000), (0, 0, 0)],
+        132,
+        (0x400ffc, 0x400040),
+    ),
+    (
+        [
+            (80, 8, 0x7eff_ffff_ff7c),
+            (24, 8, 0x7eff_ffff_fffc),
+            (0, 0, 0),
+        ],
+        132,
+        (0x7eff_ffff_fffc, 0x7eff_ffff_ffbc),
+    ),
+    (
+        [(72, 8, 65), (96, 8, 67), (104, 8, 132)],
+        132,
+        (0x400078, 0),
+    ),
+    (
+        [(56, 2, 64), (96, 8, 3648), (104, 8, 3648)],
+        3648,
+        (0x400078, 0x400040),
+    ),
+];
+
 #[test]
 fn accepted_at_the_edge(rt: HostRuntime) -> Result<(), Fail> {
-    let entry_in_zeros = changed(rt.alloc(), &[(24, 8, 0x400ffc), (104, 8, 0x1000)])?;
-    assert_eq!(rt; read_image(rt.alloc(), &entry_in_zeros)?.entry, 0x400ffc);
-    let highest = changed(
-        rt.alloc(),
-        &[(80, 8, 0x7eff_ffff_ff7c), (24, 8, 0x7eff_ffff_fffc)],
-    )?;
-    assert_eq!(rt; read_image(rt.alloc(), &highest)?.entry, 0x7eff_ffff_fffc);
-    let no_headers = changed(rt.alloc(), &[(72, 8, 65), (96, 8, 67), (104, 8, 132)])?;
-    assert_eq!(rt; read_image(rt.alloc(), &no_headers)?.headers_at, 0);
-    let mut most = changed(rt.alloc(), &[(56, 2, 64)])?;
-    most.resize(64 + 64 * 56, 0)?;
-    assert_eq!(rt; read_image(rt.alloc(), &most)?.header_count, 64);
+    for &(changes, length, want) in EDGES.iter() {
+        let file = changed(rt.alloc(), &changes, length)?;
+        let image = read_image(rt.alloc(), &file)?;
+        assert_eq!(rt; (image.entry, image.headers_at), want);
+    }
     Ok(())
 }

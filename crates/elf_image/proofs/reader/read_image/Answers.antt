@@ -1,4 +1,4 @@
-use Rattle.std.proofs.Common.{arith, rules}
+use Rattle.std.proofs.Common.{arith}
 use Rattle.std.proofs.lemmas.Grind.{common_steps}
 use Rattle.elf_image.specs.Rules.{image_fault}
 use Rattle.elf_image.specs.Images.{image_of}

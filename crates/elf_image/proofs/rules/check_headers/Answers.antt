@@ -9,7 +9,7 @@ returns-in-Some-clause-fault c =
 
 pub loop-index-preserved : goal.loop-index-preserved
 loop-index-preserved c =
-    (first_fault-more _ _ _ _ _ c.loop-index-test.true c.loop-index.invariant.0 (sym c.fault.ensures.fault ∙ c.in_default.is), grind (arith, elements, c.in_default.ensures.inside))
+    (first_fault-more _ _ _ _ _ c.loop-index-test.true c.loop-index.invariant.0 (sym c.fault.ensures.fault ∙ c.in_default.is), grind (arith, elements, c.in_default.ensures.in_file), grind (arith, elements, c.in_default.ensures.in_memory))
 
 pub returns-clause-fault : goal.returns-clause-fault
 returns-clause-fault c = first_fault-end _ _ _ c.loop-index-test.false c.loop-index.invariant.0
