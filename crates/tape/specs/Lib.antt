@@ -1,0 +1,7 @@
+pub mod Entry
+pub mod Tape
+pub mod TapeText
+pub mod TapeFile
+pub mod TapeFault
+pub mod FaultText
+pub mod TapeLaw
