@@ -1,5 +1,5 @@
 -- The entries of a file, from the nine bytes of each.
-use Rattle.std.proofs.Common.{◌≡◌, ℕ, zero, suc, ◌+◌, ◌*◌, ◌<◌, ◌≤◌, ◌/◌, ◌-◌, Bool, List, [], ◌∷◌, Option, length, map, take, drop, refl, sym, ap, ◌∙◌, add-zero, arith, length-drop}
+use Rattle.std.proofs.Common.{◌≡◌, ℕ, zero, suc, ◌+◌, ◌*◌, ◌/◌, Bool, List, [], ◌∷◌, Option, length, map, take, drop, refl, sym, ap, ◌∙◌, add-zero, arith, length-drop}
 use Rattle.std.specs.Prelude.{slice_index, not, position, option_map}
 use Rattle.std.specs.List.{range_with_len, position_or_len}
 use Rattle.std.specs.Simd.{first_chunks}
@@ -7,7 +7,6 @@ use Rattle.std.proofs.lemmas.List.{drop-drop, drop-take, get_or-take, get_or-dro
 use Rattle.byteorder.specs.Endian.{little_from}
 use Rattle.byteorder.specs.Numbers.{little_from-take}
 use Rattle.places.specs.Places.{number_at}
-use Rattle.tape.specs.declared.entry.Entry.{Entry}
 use Rattle.tape.specs.declared.fault.TapeFault.TheVariants.{BadActor}
 use Rattle.tape.specs.Entry.{is_actor}
 use Rattle.tape.specs.TapeFault.{actor_fault}

@@ -1,5 +1,5 @@
 -- Bytes without a fault are the text of the tape that stands in them.
-use Rattle.std.proofs.Common.{◌≡◌, ℕ, zero, suc, ◌+◌, ◌*◌, ◌^◌, ◌<◌, ◌≤◌, Bool, true, false, cond, eqb, ltb, List, [], ◌∷◌, ◌++◌, length, map, take, drop, Option, Some, None, refl, sym, ap, ◌∙◌, arith, inl, inr}
+use Rattle.std.proofs.Common.{◌≡◌, ℕ, zero, suc, ◌+◌, ◌*◌, ◌^◌, ◌<◌, ◌≤◌, Bool, true, false, cond, eqb, ltb, List, ◌∷◌, ◌++◌, length, map, take, drop, Option, Some, None, refl, sym, ap, ◌∙◌, arith, inl, inr}
 use Rattle.std.specs.Prelude.{not, position, slice_index, nat_eq, ◌||◌, option_map}
 use Rattle.std.specs.List.{flat_map, range_with_len, AllByRecursion, position_or_len, starts_with}
 use Rattle.std.specs.Cmp.Lexicographic.{same_text}
@@ -14,7 +14,7 @@ use Rattle.tape.specs.declared.fault.TapeFault.TheVariants.{BadActor}
 use Rattle.tape.specs.Entry.{is_actor, entry_text}
 use Rattle.tape.specs.TapeText.{magic, tape_text, FitsEntry, FitsFile}
 use Rattle.tape.specs.TapeFile.{seed_in, pages_in, count_in, entry_at, entries_in}
-use Rattle.tape.specs.TapeFault.{header_fault, actor_fault, header_first, tape_fault}
+use Rattle.tape.specs.TapeFault.{header_fault, actor_fault, first_fault, tape_fault}
 
 abbrev pub IsBytes : List ℕ → Type 0
 IsBytes bytes = (i : ℕ) → slice_index bytes i < 2 ^ 8
@@ -113,10 +113,10 @@ entries_fit bytes (suc count) first fits known = elim (cases_Bool (is_actor (sli
   | inl its ↦
       let rest = rw its at known in
       (record { actor_known = its; actor_fits = fits (32 + 9 * first); amount_fits = number_at-lt bytes (32 + 9 * first + 1) 8 fits }, entries_fit bytes count (first + 1) fits (omega (arith, rest)))
-  | inr strange ↦ let none = rw strange at known in absurd (omega (arith, none))
+  | inr bad ↦ let none = rw bad at known in absurd (omega (arith, none))
 ]
 
--- no stranger was found
+-- no bad actor was found
 no_actor_fault : (found : Option ℕ) → option_map BadActor found ≡ None → found ≡ None
 no_actor_fault None e = refl
 no_actor_fault (Some at) e = absurd cc
@@ -124,9 +124,9 @@ no_actor_fault (Some at) e = absurd cc
 known_from_none : (bytes : List ℕ) → actor_fault bytes ≡ None → length (entries_in bytes) ≤ position_or_len (λ entry. not (is_actor entry.actor)) (entries_in bytes)
 unfolding actor_fault
 known_from_none bytes e =
-    let stranger : Entry → Bool = λ entry. not (is_actor entry.actor) in
-    let none = no_actor_fault (position stranger (entries_in bytes)) e in
-    let past = passes (ltb (position_or_len stranger (entries_in bytes)) (length (entries_in bytes))) _ _ none in
+    let is_bad : Entry → Bool = λ entry. not (is_actor entry.actor) in
+    let none = no_actor_fault (position is_bad (entries_in bytes)) e in
+    let past = passes (ltb (position_or_len is_bad (entries_in bytes)) (length (entries_in bytes))) _ _ none in
     ltb-false _ _ past.0
 
 pub fits_from_none : (bytes : List ℕ) → IsHeader bytes → IsBytes bytes → actor_fault bytes ≡ None → FitsFile (seed_in bytes) (pages_in bytes) (entries_in bytes)
@@ -142,7 +142,7 @@ fits_from_none bytes header fits e = record {
 -- ---- all of it
 
 -- the header's fault comes first
-parts : (bytes : List ℕ) (header : Option TapeFault) → header_first bytes header ≡ None → (header ≡ None) × (actor_fault bytes ≡ None)
+parts : (bytes : List ℕ) (header : Option TapeFault) → first_fault bytes header ≡ None → (header ≡ None) × (actor_fault bytes ≡ None)
 parts bytes None e = (refl, e)
 parts bytes (Some fault) e = absurd cc
 

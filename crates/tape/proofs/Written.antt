@@ -1,6 +1,6 @@
 -- A tape's text, read again: what stands where in it, and that it has no fault.
-use Rattle.std.proofs.Common.{◌≡◌, ℕ, zero, suc, ◌+◌, ◌*◌, ◌^◌, ◌<◌, ◌≤◌, true, false, cond, eqb, ltb, List, [], ◌∷◌, ◌++◌, length, map, drop, Bool, Option, Some, None, refl, sym, ap, ◌∙◌, subst, append_assoc, arith, length-append}
-use Rattle.std.specs.Prelude.{not, position, slice_index, nat_eq, option_map}
+use Rattle.std.proofs.Common.{◌≡◌, ℕ, ◌+◌, ◌*◌, ◌^◌, ◌<◌, true, false, cond, eqb, ltb, List, [], ◌∷◌, ◌++◌, length, map, Bool, Option, Some, None, refl, sym, ap, ◌∙◌, subst, append_assoc, arith, length-append}
+use Rattle.std.specs.Prelude.{not, slice_index, nat_eq, option_map}
 use Rattle.std.specs.List.{flat_map, range_with_len, AllByRecursion, position_or_len, starts_with}
 use Rattle.std.proofs.lemmas.Bool.{le-ltb, eq-eqb, ne_eqb}
 use Rattle.std.proofs.lemmas.List.{get_or_at, length_push}
@@ -12,7 +12,7 @@ use Rattle.tape.specs.declared.fault.TapeFault.TheVariants.{BadMagic, Torn, TooL
 use Rattle.tape.specs.Entry.{is_actor, entry_text}
 use Rattle.tape.specs.TapeText.{magic, tape_text, FitsEntry, FitsFile}
 use Rattle.tape.specs.TapeFile.{seed_in, pages_in, count_in, entry_at, entries_in}
-use Rattle.tape.specs.TapeFault.{header_fault, actor_fault, header_first, tape_fault, IsCause}
+use Rattle.tape.specs.TapeFault.{header_fault, actor_fault, first_fault, tape_fault, IsCause}
 use Rattle.tape.specs.Tape.{Recording}
 
 length-entries_text : (entries : List Entry) → length (flat_map entry_text entries) ≡ 9 * length entries
@@ -67,15 +67,15 @@ entries_in-text seed pages entries lt fits =
     rw (count_in-text seed pages entries lt)
     (entries_at-text (magic ++ bytes_of seed 8 ++ bytes_of pages 8 ++ bytes_of (length entries) 8) entries 0 refl fits)
 
-none_strange : (entries : List Entry) → AllByRecursion FitsEntry entries → position_or_len (λ entry. not (is_actor entry.actor)) entries ≡ length entries
-none_strange [] fits = refl
-none_strange (e ∷ entries) fits = let known = fits.0.actor_known in rw (known, none_strange entries fits.1) (omega arith)
+none_bad : (entries : List Entry) → AllByRecursion FitsEntry entries → position_or_len (λ entry. not (is_actor entry.actor)) entries ≡ length entries
+none_bad [] fits = refl
+none_bad (e ∷ entries) fits = let known = fits.0.actor_known in rw (known, none_bad entries fits.1) (omega arith)
 
 actor_fault-text : (seed pages : ℕ) (entries : List Entry) → FitsFile seed pages entries → actor_fault (tape_text seed pages entries) ≡ None
 unfolding actor_fault
 actor_fault-text seed pages entries fits =
     let at_end : ltb (length entries) (length entries) ≡ false = le-ltb (length entries) (length entries) (omega arith) in
-    rw (entries_in-text seed pages entries (omega (arith, fits.few_entries)) fits.entries_fit, none_strange entries fits.entries_fit, at_end) refl
+    rw (entries_in-text seed pages entries (omega (arith, fits.few_entries)) fits.entries_fit, none_bad entries fits.entries_fit, at_end) refl
 
 starts_with-text : (seed pages : ℕ) (entries : List Entry) → starts_with nat_eq (tape_text seed pages entries) magic ≡ true
 unfolding tape_text
@@ -143,14 +143,14 @@ actor_fault-other : (found : Option ℕ) → option_map BadActor found ≡ Some 
 actor_fault-other None e = cc
 actor_fault-other (Some at) e = cc
 
-header_first-other : (bytes : List ℕ) (header : Option TapeFault) → (header ≡ Some NoMemory → ⊥) → header_first bytes header ≡ Some NoMemory → ⊥
+first_fault-other : (bytes : List ℕ) (header : Option TapeFault) → (header ≡ Some NoMemory → ⊥) → first_fault bytes header ≡ Some NoMemory → ⊥
 unfolding actor_fault
-header_first-other bytes None other e = actor_fault-other _ e
-header_first-other bytes (Some fault) other e = other e
+first_fault-other bytes None other e = actor_fault-other _ e
+first_fault-other bytes (Some fault) other e = other e
 
 tape_fault-other : (bytes : List ℕ) → tape_fault bytes ≡ Some NoMemory → ⊥
 unfolding tape_fault
-tape_fault-other bytes = header_first-other bytes (header_fault bytes) (header_fault-other bytes)
+tape_fault-other bytes = first_fault-other bytes (header_fault bytes) (header_fault-other bytes)
 
 pub is_cause : (bytes : List ℕ) (fault : TapeFault) → tape_fault bytes ≡ Some fault → IsCause bytes fault
 is_cause bytes BadMagic e = e

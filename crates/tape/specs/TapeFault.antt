@@ -21,14 +21,14 @@ header_fault bytes =
 unfoldable pub actor_fault : List ℕ → Option TapeFault
 actor_fault bytes = option_map BadActor (position (λ entry. not (is_actor entry.actor)) (entries_in bytes))
 
--- a fault of the header comes before one of an entry
-abbrev pub header_first : List ℕ → Option TapeFault → Option TapeFault
-header_first bytes (Some fault) = Some fault
-header_first bytes None = actor_fault bytes
+-- the fault of the header where it has one, else that of the entries
+abbrev pub first_fault : List ℕ → Option TapeFault → Option TapeFault
+first_fault bytes (Some fault) = Some fault
+first_fault bytes None = actor_fault bytes
 
 -- the first fault of bytes as a tape file
 unfoldable pub tape_fault : List ℕ → Option TapeFault
-tape_fault bytes = header_first bytes (header_fault bytes)
+tape_fault bytes = first_fault bytes (header_fault bytes)
 
 -- the cause of an answer that is no tape: that fault, or, for want of memory, that there is none
 abbrev pub IsCause : List ℕ → TapeFault → Type 0

@@ -1,6 +1,6 @@
 //! Why bytes are no tape file.
 
-ghost use Rattle.std.specs.Prelude.{◌≡◌};
+ghost use Rattle.std.specs.Prelude.{◌≡◌, ◌≤◌, length};
 ghost use Rattle.tape.specs.FaultText.{fault_words, fault_place};
 
 use std::alloc::AllocError;
@@ -23,9 +23,9 @@ pub enum TapeFault {
     /// The file is shorter than its header, or has another length than its count asks for. `at` is its
     /// length in bytes.
     Torn { at: u64 },
-    /// More than 20,000,000 entries.
+    /// The file claims `count` entries, more than 20,000,000.
     TooLong { count: u64 },
-    /// No memory, or more pages than 65,536.
+    /// The file claims `pages` pages: none, or more than 65,536.
     BadPages { pages: u64 },
     /// Entry `at`, counted from 0, is the first whose actor is none.
     BadActor { at: u64 },
@@ -47,7 +47,8 @@ impl TapeFault {
     /// What is wrong, in words; [`TapeFault::place`] follows it where there is one. Want of memory is no
     /// fault of the file, and has no words here.
     pub fn text(self) -> &'static str
-        ensures { result.now ≡ fault_words self }
+        ensures words { result.now ≡ fault_words self }
+        ensures short { length result.now ≤ 19 }
     {
         match self {
             TapeFault::BadMagic => "bad magic",

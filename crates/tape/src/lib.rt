@@ -12,7 +12,7 @@ mod reading;
 mod tape;
 mod writing;
 
-pub use entry::{Entry, is_actor};
+pub use entry::Entry;
 pub use fault::{NoMemory, TapeFault};
 pub use laws::files_are_texts;
 pub use reading::read_tape;

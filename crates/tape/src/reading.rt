@@ -4,8 +4,9 @@ ghost use Rattle.std.specs.Prelude.{◌≡◌, ◌+◌, ◌*◌, ◌≤◌, ◌+
 ghost use Rattle.places.specs.Places.{number_at};
 ghost use Rattle.tape.specs.Entry as spec;
 ghost use Rattle.tape.specs.TapeText.{tape_text, FitsFile};
-ghost use Rattle.tape.specs.TapeFile.{seed_in, pages_in, count_in, entry_at, entries_in};
+ghost use Rattle.tape.specs.TapeFile.{count_in, entry_at, entries_in};
 ghost use Rattle.tape.specs.TapeFault.{header_fault, tape_fault, IsCause};
+ghost use Rattle.tape.specs.Header.{IsHeaderOf};
 
 use crate::entry::{Entry, is_actor};
 use crate::fault::TapeFault;
@@ -22,6 +23,7 @@ struct Header {
     count: u32,
 }
 
+/// The number in the eight bytes from a place on, little-endian.
 fn number(bytes: &[u8], at: usize) -> u64
     requires { at + 8 ≤ length bytes.now }
     ensures { result ≡ number_at bytes.now at 8 }
@@ -29,13 +31,11 @@ fn number(bytes: &[u8], at: usize) -> u64
     LittleEndian::read_u64(&bytes[at..])
 }
 
+/// The header of a file whose header and length have no fault.
 #[tactic(auto, unfolding(crate::specs::TapeFault::header_fault, crate::specs::TapeFile::seed_in, crate::specs::TapeFile::pages_in, crate::specs::TapeFile::count_in))]
 fn read_header(bytes: &[u8]) -> Result<Header, TapeFault>
     ensures sound { IfOk result (λ _. header_fault bytes.now ≡ None) }
-    ensures length { IfOk result (λ header. length bytes.now ≡ 32 + 9 * header.count) }
-    ensures seed { IfOk result (λ header. header.seed ≡ seed_in bytes.now) }
-    ensures pages { IfOk result (λ header. header.pages ≡ pages_in bytes.now) }
-    ensures count { IfOk result (λ header. header.count ≡ count_in bytes.now) }
+    ensures header { IfOk result (IsHeaderOf bytes.now) }
     ensures fault { IfErr result (λ fault. header_fault bytes.now ≡ Some fault) }
 {
     if !bytes.starts_with(&MAGIC) {
@@ -65,6 +65,7 @@ fn read_header(bytes: &[u8]) -> Result<Header, TapeFault>
     })
 }
 
+/// The entry of nine bytes.
 fn entry_of(bytes: &[u8; ENTRY_LENGTH]) -> Entry
     ensures { result ≡ entry_at bytes.now 0 }
 {
@@ -74,24 +75,22 @@ fn entry_of(bytes: &[u8; ENTRY_LENGTH]) -> Entry
     }
 }
 
-fn first_stranger(records: &[[u8; ENTRY_LENGTH]]) -> Option<usize>
+/// The place of the first entry whose actor is none.
+fn first_bad_actor(records: &[[u8; ENTRY_LENGTH]]) -> Option<usize>
     ensures { result ≡ position (λ bytes. not (spec.is_actor (slice_index bytes 0))) records.now }
 {
     records.iter().position(|record| !is_actor(record[0]))
 }
 
-/// The header of a file without a fault. The whole file is looked at.
+/// The header of a file that has no fault in any of its bytes.
 #[tactic(auto, unfolding(crate::specs::TapeFault::tape_fault))]
 fn judge(bytes: &[u8]) -> Result<Header, TapeFault>
     ensures sound { IfOk result (λ _. tape_fault bytes.now ≡ None) }
-    ensures length { IfOk result (λ header. length bytes.now ≡ 32 + 9 * header.count) }
-    ensures seed { IfOk result (λ header. header.seed ≡ seed_in bytes.now) }
-    ensures pages { IfOk result (λ header. header.pages ≡ pages_in bytes.now) }
-    ensures count { IfOk result (λ header. header.count ≡ count_in bytes.now) }
+    ensures header { IfOk result (IsHeaderOf bytes.now) }
     ensures fault { IfErr result (λ fault. tape_fault bytes.now ≡ Some fault) }
 {
     let header = read_header(bytes)?;
-    match first_stranger(records_of(bytes)) {
+    match first_bad_actor(records_of(bytes)) {
         Some(at) => Err(TapeFault::BadActor { at: at as u64 }),
         None => Ok(header),
     }
@@ -106,6 +105,7 @@ fn records_of(bytes: &[u8]) -> &[[u8; ENTRY_LENGTH]]
     bytes[HEADER_LENGTH..].as_chunks::<ENTRY_LENGTH>().0
 }
 
+/// Adds the entries of a file to a tape that has room for them.
 fn fill(tape: &mut Tape, records: &[[u8; ENTRY_LENGTH]])
     requires { length tape.old.entries + length records.now ≤ tape.old.room }
     ensures { tape.new ≡ record tape.old { entries = tape.old.entries ++ map (λ bytes. entry_at bytes 0) records.now } }

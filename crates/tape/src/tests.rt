@@ -1,3 +1,5 @@
+ghost use Rattle.std.specs.Prelude.{◌≡◌};
+
 use super::*;
 use std::alloc::Global;
 use std::process::Abort;
@@ -62,6 +64,13 @@ fn damaged_tape(rt: HostRuntime) {
     }
 }
 
+/// A tape is handed from thread to thread.
+fn across_threads<T: Send + Sync>(value: T) -> T
+    ensures { result ≡ value }
+{
+    value
+}
+
 #[test]
 fn exit_42_has_68_bytes(rt: HostRuntime) -> Result<(), Fail> {
     let mut tape = Tape::with_room(rt.alloc(), 0, 4096, 5)
@@ -76,6 +85,7 @@ fn exit_42_has_68_bytes(rt: HostRuntime) -> Result<(), Fail> {
             .is_ok()
         );
     }
+    let tape = across_threads(tape);
     let text = write_tape(rt.alloc(), &tape).ok().ok_or("no memory")?;
     assert_eq!(rt; text.as_slice(), EXIT_42.as_slice());
     let read = read_tape(rt.alloc(), &EXIT_42).ok().ok_or("refused")?;

@@ -12,6 +12,7 @@ use crate::tape::Tape;
 use byteorder::{ByteOrder, LittleEndian};
 use std::alloc::Global;
 
+/// The nine bytes of an entry.
 fn record_of(entry: Entry) -> [u8; ENTRY_LENGTH]
     ensures { result ≡ entry_text entry }
 {
@@ -21,6 +22,7 @@ fn record_of(entry: Entry) -> [u8; ENTRY_LENGTH]
     bytes
 }
 
+/// The 32 bytes in front of the entries.
 fn header_of(seed: u64, pages: u32, count: u64) -> [u8; HEADER_LENGTH]
     ensures { result ≡ magic ++ (bytes_of seed 8 ++ (bytes_of pages 8 ++ bytes_of count 8)) }
 {

@@ -16,8 +16,8 @@ returns-in_err-seed-clause-again c = λ seed pages entries fits e. absurd (no_te
 -- what was read is what stands in the bytes
 stands : (c : goal.After-fill) → c.fill.new.tape ≡ tape_in c.args.bytes.now
 stands c =
-    let header = c.in_ok-seed.ensures in
-    rw (c.fill.ensures, c.in_ok-tape.ensures, c.records_of.ensures.entries) (λ i. record { seed = header.seed i; pages = header.pages i; room = header.count i; entries = entries_in c.args.bytes.now })
+    let header = c.in_ok-seed.ensures.header in
+    rw (c.fill.ensures, c.in_ok-tape.ensures, c.records_of.ensures.entries) (λ i. record { seed = header.seed_read i; pages = header.pages_read i; room = header.count_read i; entries = entries_in c.args.bytes.now })
 
 pub returns-clause-text : goal.returns-clause-text
 returns-clause-text c =
