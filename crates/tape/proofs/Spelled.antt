@@ -1,6 +1,6 @@
 -- Bytes without a fault are the text of the tape that stands in them.
-use Rattle.std.proofs.Common.{◌≡◌, ℕ, zero, suc, ◌+◌, ◌*◌, ◌^◌, ◌<◌, ◌≤◌, Bool, true, false, cond, eqb, ltb, List, ◌∷◌, ◌++◌, length, map, take, drop, Option, Some, None, refl, sym, ap, ◌∙◌, arith, inl, inr}
-use Rattle.std.specs.Prelude.{not, position, slice_index, nat_eq, ◌||◌, option_map}
+use Rattle.std.proofs.Common.{◌≡◌, ℕ, zero, suc, ◌+◌, ◌*◌, ◌^◌, ◌<◌, ◌≤◌, Bool, true, false, cond, eqb, ltb, List, [], ◌∷◌, ◌++◌, length, map, take, drop, Option, Some, None, refl, sym, ap, ◌∙◌, arith, inl, inr}
+use Rattle.std.specs.Prelude.{IsTrue, not, position, slice_index, nat_eq, ◌||◌, option_map}
 use Rattle.std.specs.List.{flat_map, range_with_len, AllByRecursion, position_or_len, starts_with}
 use Rattle.std.specs.Cmp.Lexicographic.{same_text}
 use Rattle.std.proofs.lemmas.Bool.{cases_Bool, ltb-false, eqb-true, eqb-false, or_parts, not-false}
@@ -11,8 +11,8 @@ use Rattle.places.proofs.Numbers.{bytes_of-number_at, number_at-lt}
 use Rattle.tape.specs.declared.entry.Entry.{Entry}
 use Rattle.tape.specs.declared.fault.TapeFault.{TapeFault}
 use Rattle.tape.specs.declared.fault.TapeFault.TheVariants.{BadActor}
-use Rattle.tape.specs.Entry.{is_actor, entry_text}
-use Rattle.tape.specs.TapeText.{magic, tape_text, FitsEntry, FitsFile}
+use Rattle.tape.specs.Entry.{is_actor, entry_text, FitsEntry}
+use Rattle.tape.specs.TapeText.{magic, tape_text, FitsFile}
 use Rattle.tape.specs.TapeFile.{seed_in, pages_in, count_in, entry_at, entries_in}
 use Rattle.tape.specs.TapeFault.{header_fault, actor_fault, first_fault, tape_fault}
 
@@ -105,15 +105,17 @@ is_spelled bytes header fits =
 
 -- ---- the entries fit
 
-entries_fit : (bytes : List ℕ) (count first : ℕ) → IsBytes bytes
-    → length (map (λ i. entry_at bytes (32 + 9 * i)) (range_with_len first count)) ≤ position_or_len (λ entry. not (is_actor entry.actor)) (map (λ i. entry_at bytes (32 + 9 * i)) (range_with_len first count))
-    → AllByRecursion FitsEntry (map (λ i. entry_at bytes (32 + 9 * i)) (range_with_len first count))
-entries_fit bytes zero first fits known = tt
-entries_fit bytes (suc count) first fits known = elim (cases_Bool (is_actor (slice_index bytes (32 + 9 * first)))) [
-  | inl its ↦
-      let rest = rw its at known in
-      (record { actor_known = its; actor_fits = fits (32 + 9 * first); amount_fits = number_at-lt bytes (32 + 9 * first + 1) 8 fits }, entries_fit bytes count (first + 1) fits (omega (arith, rest)))
-  | inr bad ↦ let none = rw bad at known in absurd (omega (arith, none))
+entries_fit : (bytes : List ℕ) (count first : ℕ) → IsBytes bytes → AllByRecursion FitsEntry (map (λ i. entry_at bytes (32 + 9 * i)) (range_with_len first count))
+entries_fit bytes zero first fits = tt
+entries_fit bytes (suc count) first fits =
+    (record { actor_fits = fits (32 + 9 * first); amount_fits = number_at-lt bytes (32 + 9 * first + 1) 8 fits }, entries_fit bytes count (first + 1) fits)
+
+-- where the search for a bad actor passed every entry
+all_known : (entries : List Entry) → length entries ≤ position_or_len (λ entry. not (is_actor entry.actor)) entries → AllByRecursion (λ entry. IsTrue (is_actor entry.actor)) entries
+all_known [] passed = tt
+all_known (e ∷ entries) passed = elim (cases_Bool (is_actor e.actor)) [
+  | inl known ↦ let rest = rw known at passed in (known, all_known entries (omega (arith, rest)))
+  | inr bad ↦ let none = rw bad at passed in absurd (omega (arith, none))
 ]
 
 -- no bad actor was found
@@ -132,11 +134,14 @@ known_from_none bytes e =
 pub fits_from_none : (bytes : List ℕ) → IsHeader bytes → IsBytes bytes → actor_fault bytes ≡ None → FitsFile (seed_in bytes) (pages_in bytes) (entries_in bytes)
 unfolding seed_in entries_in
 fits_from_none bytes header fits e = record {
+  allowed = record {
+    some_pages = header.some_pages;
+    few_pages = header.few_pages;
+    few_entries = omega (arith, length-entries_in bytes, header.few_entries);
+    known_actors = all_known (entries_in bytes) (known_from_none bytes e);
+  };
   seed_fits = number_at-lt bytes 8 8 fits;
-  some_pages = header.some_pages;
-  few_pages = header.few_pages;
-  few_entries = omega (arith, length-entries_in bytes, header.few_entries);
-  entries_fit = entries_fit bytes (count_in bytes) 0 fits (known_from_none bytes e);
+  entries_fit = entries_fit bytes (count_in bytes) 0 fits;
 }
 
 -- ---- all of it

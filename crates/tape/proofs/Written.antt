@@ -1,6 +1,6 @@
 -- A tape's text, read again: what stands where in it, and that it has no fault.
 use Rattle.std.proofs.Common.{◌≡◌, ℕ, ◌+◌, ◌*◌, ◌^◌, ◌<◌, true, false, cond, eqb, ltb, List, [], ◌∷◌, ◌++◌, length, map, Bool, Option, Some, None, refl, sym, ap, ◌∙◌, subst, append_assoc, arith, length-append}
-use Rattle.std.specs.Prelude.{not, slice_index, nat_eq, option_map}
+use Rattle.std.specs.Prelude.{IsTrue, not, slice_index, nat_eq, option_map}
 use Rattle.std.specs.List.{flat_map, range_with_len, AllByRecursion, position_or_len, starts_with}
 use Rattle.std.proofs.lemmas.Bool.{le-ltb, eq-eqb, ne_eqb}
 use Rattle.std.proofs.lemmas.List.{get_or_at, length_push}
@@ -9,8 +9,8 @@ use Rattle.places.proofs.Numbers.{number_at-bytes_of}
 use Rattle.tape.specs.declared.entry.Entry.{Entry}
 use Rattle.tape.specs.declared.fault.TapeFault.{TapeFault}
 use Rattle.tape.specs.declared.fault.TapeFault.TheVariants.{BadMagic, Torn, TooLong, BadPages, BadActor, NoMemory}
-use Rattle.tape.specs.Entry.{is_actor, entry_text}
-use Rattle.tape.specs.TapeText.{magic, tape_text, FitsEntry, FitsFile}
+use Rattle.tape.specs.Entry.{is_actor, entry_text, FitsEntry}
+use Rattle.tape.specs.TapeText.{magic, tape_text, FitsFile}
 use Rattle.tape.specs.TapeFile.{seed_in, pages_in, count_in, entry_at, entries_in}
 use Rattle.tape.specs.TapeFault.{header_fault, actor_fault, first_fault, tape_fault, IsCause}
 use Rattle.tape.specs.Tape.{Recording}
@@ -67,15 +67,15 @@ entries_in-text seed pages entries lt fits =
     rw (count_in-text seed pages entries lt)
     (entries_at-text (magic ++ bytes_of seed 8 ++ bytes_of pages 8 ++ bytes_of (length entries) 8) entries 0 refl fits)
 
-none_bad : (entries : List Entry) → AllByRecursion FitsEntry entries → position_or_len (λ entry. not (is_actor entry.actor)) entries ≡ length entries
-none_bad [] fits = refl
-none_bad (e ∷ entries) fits = let known = fits.0.actor_known in rw (known, none_bad entries fits.1) (omega arith)
+none_bad : (entries : List Entry) → AllByRecursion (λ entry. IsTrue (is_actor entry.actor)) entries → position_or_len (λ entry. not (is_actor entry.actor)) entries ≡ length entries
+none_bad [] known = refl
+none_bad (e ∷ entries) known = let first : is_actor e.actor ≡ true = known.0 in rw (first, none_bad entries known.1) (omega arith)
 
 actor_fault-text : (seed pages : ℕ) (entries : List Entry) → FitsFile seed pages entries → actor_fault (tape_text seed pages entries) ≡ None
 unfolding actor_fault
 actor_fault-text seed pages entries fits =
     let at_end : ltb (length entries) (length entries) ≡ false = le-ltb (length entries) (length entries) (omega arith) in
-    rw (entries_in-text seed pages entries (omega (arith, fits.few_entries)) fits.entries_fit, none_bad entries fits.entries_fit, at_end) refl
+    rw (entries_in-text seed pages entries (omega (arith, fits.allowed.few_entries)) fits.entries_fit, none_bad entries fits.allowed.known_actors, at_end) refl
 
 starts_with-text : (seed pages : ℕ) (entries : List Entry) → starts_with nat_eq (tape_text seed pages entries) magic ≡ true
 unfolding tape_text
@@ -86,11 +86,11 @@ unfolding header_fault
 header_fault-text seed pages entries fits =
     let whole = length-tape_text seed pages entries in
     let long : ltb (length (tape_text seed pages entries)) 32 ≡ false = le-ltb _ 32 (omega arith) in
-    let some : eqb pages 0 ≡ false = ne_eqb pages 0 (λ (none : pages ≡ 0). omega (arith, fits.some_pages)) in
-    let few : ltb 65536 pages ≡ false = le-ltb 65536 pages fits.few_pages in
-    let few_entries : ltb 20000000 (length entries) ≡ false = le-ltb 20000000 (length entries) fits.few_entries in
+    let some : eqb pages 0 ≡ false = ne_eqb pages 0 (λ (none : pages ≡ 0). omega (arith, fits.allowed.some_pages)) in
+    let few : ltb 65536 pages ≡ false = le-ltb 65536 pages fits.allowed.few_pages in
+    let few_entries : ltb 20000000 (length entries) ≡ false = le-ltb 20000000 (length entries) fits.allowed.few_entries in
     let exact : eqb (length (tape_text seed pages entries)) (32 + 9 * length entries) ≡ true = eq-eqb _ _ whole in
-    rw (starts_with-text seed pages entries, long, pages_in-text seed pages entries (omega (arith, fits.few_pages)), some, few, count_in-text seed pages entries (omega (arith, fits.few_entries)), few_entries, exact) refl
+    rw (starts_with-text seed pages entries, long, pages_in-text seed pages entries (omega (arith, fits.allowed.few_pages)), some, few, count_in-text seed pages entries (omega (arith, fits.allowed.few_entries)), few_entries, exact) refl
 
 pub tape_fault-text : (seed pages : ℕ) (entries : List Entry) → FitsFile seed pages entries → tape_fault (tape_text seed pages entries) ≡ None
 unfolding tape_fault
@@ -99,10 +99,10 @@ tape_fault-text seed pages entries fits = rw (header_fault-text seed pages entri
 pub text_is_one : (seed pages other_seed other_pages : ℕ) (entries other_entries : List Entry) → FitsFile seed pages entries → FitsFile other_seed other_pages other_entries
     → tape_text seed pages entries ≡ tape_text other_seed other_pages other_entries → (seed ≡ other_seed) × (pages ≡ other_pages) × (entries ≡ other_entries)
 text_is_one seed pages other_seed other_pages entries other_entries fits other_fits same =
-    let small : length entries < 2 ^ 64 = omega (arith, fits.few_entries) in
-    let other_small : length other_entries < 2 ^ 64 = omega (arith, other_fits.few_entries) in
+    let small : length entries < 2 ^ 64 = omega (arith, fits.allowed.few_entries) in
+    let other_small : length other_entries < 2 ^ 64 = omega (arith, other_fits.allowed.few_entries) in
     let same_seed : seed ≡ other_seed = sym (seed_in-text seed pages entries fits.seed_fits) ∙ ap seed_in same ∙ seed_in-text other_seed other_pages other_entries other_fits.seed_fits in
-    let same_pages : pages ≡ other_pages = sym (pages_in-text seed pages entries (omega (arith, fits.few_pages))) ∙ ap pages_in same ∙ pages_in-text other_seed other_pages other_entries (omega (arith, other_fits.few_pages)) in
+    let same_pages : pages ≡ other_pages = sym (pages_in-text seed pages entries (omega (arith, fits.allowed.few_pages))) ∙ ap pages_in same ∙ pages_in-text other_seed other_pages other_entries (omega (arith, other_fits.allowed.few_pages)) in
     let same_entries : entries ≡ other_entries = sym (entries_in-text seed pages entries small fits.entries_fit) ∙ ap entries_in same ∙ entries_in-text other_seed other_pages other_entries other_small other_fits.entries_fit in
     (same_seed, same_pages, same_entries)
 
@@ -113,9 +113,9 @@ tape_in bytes = record { seed = seed_in bytes; pages = pages_in bytes; room = co
 pub tape_in-text : (bytes : List ℕ) (seed pages : ℕ) (entries : List Entry) → FitsFile seed pages entries → bytes ≡ tape_text seed pages entries
     → tape_in bytes ≡ record { seed = seed; pages = pages; room = length entries; entries = entries }
 tape_in-text bytes seed pages entries fits e =
-    let small : length entries < 2 ^ 64 = omega (arith, fits.few_entries) in
+    let small : length entries < 2 ^ 64 = omega (arith, fits.allowed.few_entries) in
     let its_seed : seed_in bytes ≡ seed = ap seed_in e ∙ seed_in-text seed pages entries fits.seed_fits in
-    let its_pages : pages_in bytes ≡ pages = ap pages_in e ∙ pages_in-text seed pages entries (omega (arith, fits.few_pages)) in
+    let its_pages : pages_in bytes ≡ pages = ap pages_in e ∙ pages_in-text seed pages entries (omega (arith, fits.allowed.few_pages)) in
     let its_count : count_in bytes ≡ length entries = ap count_in e ∙ count_in-text seed pages entries small in
     let its_entries : entries_in bytes ≡ entries = ap entries_in e ∙ entries_in-text seed pages entries small fits.entries_fit in
     λ i. record { seed = its_seed i; pages = its_pages i; room = its_count i; entries = its_entries i }

@@ -1,9 +1,10 @@
 //! Writing a tape file.
 
-ghost use Rattle.std.specs.Prelude.{◌≡◌, ◌+◌, ◌*◌, ◌++◌, length, IfOk, vec_len};
+ghost use Rattle.std.specs.Prelude.{◌≡◌, ◌+◌, ◌*◌, ◌++◌, length, None, IfOk, vec_len};
 ghost use Rattle.places.specs.Places.{bytes_of};
-ghost use Rattle.tape.specs.Entry.{entry_text};
-ghost use Rattle.tape.specs.TapeText.{magic, tape_text};
+ghost use Rattle.tape.specs.Entry.{entry_text, FitsEntry};
+ghost use Rattle.tape.specs.TapeText.{magic, tape_text, IsAllowed, FitsFile};
+ghost use Rattle.tape.specs.TapeFault.{tape_fault};
 
 use crate::entry::Entry;
 use crate::fault::NoMemory;
@@ -14,7 +15,8 @@ use std::alloc::Global;
 
 /// The nine bytes of an entry.
 fn record_of(entry: Entry) -> [u8; ENTRY_LENGTH]
-    ensures { result ≡ entry_text entry }
+    ensures text { result ≡ entry_text entry }
+    ensures fits { FitsEntry entry }
 {
     let mut bytes = [0; ENTRY_LENGTH];
     bytes[0] = entry.actor;
@@ -39,6 +41,10 @@ fn header_of(seed: u64, pages: u32, count: u64) -> [u8; HEADER_LENGTH]
 pub fn write_tape(alloc: Global, tape: &Tape) -> Result<Vec<u8>, NoMemory>
     ensures text { IfOk result (λ text. text.items ≡ tape_text tape.now.seed tape.now.pages tape.now.entries) }
     ensures length { IfOk result (λ text. vec_len text ≡ 32 + 9 * length tape.now.entries) }
+
+    // A tape that a file may keep can be read again.
+    ensures fits { IfOk result (λ _. IsAllowed tape.now.pages tape.now.entries → FitsFile tape.now.seed tape.now.pages tape.now.entries) }
+    ensures sound { IfOk result (λ text. IsAllowed tape.now.pages tape.now.entries → tape_fault text.items ≡ None) }
 {
     let entries = tape.entries();
     let mut text = Vec::with_capacity(alloc, HEADER_LENGTH + ENTRY_LENGTH * entries.len())?;
