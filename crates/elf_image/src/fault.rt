@@ -1,8 +1,7 @@
 //! Why a file is refused.
 
 ghost use Rattle.std.specs.Prelude.{◌≡◌};
-ghost use Rattle.elf_image.specs.Faults.{kind_text};
-ghost use Rattle.elf_image.specs.declared.fault.ElfKind.TheVariants.{NoMemory};
+ghost use Rattle.elf_image.specs.Faults.{kind_text, no_memory};
 
 use std::alloc::{AllocError, AllocFailed};
 
@@ -73,7 +72,7 @@ pub struct ElfFault {
 }
 
 impl From<AllocError> for ElfFault {
-    ghost from_gives = { λ _ fault. fault ≡ record { kind = NoMemory; place = 0 } };
+    ghost from_gives = { λ _ fault. fault ≡ no_memory };
 
     fn from(_error: AllocError) -> ElfFault {
         ElfKind::NoMemory.at(0)
@@ -81,7 +80,7 @@ impl From<AllocError> for ElfFault {
 }
 
 impl<T: Drop> From<AllocFailed<T>> for ElfFault {
-    ghost from_gives = { λ _ fault. fault ≡ record { kind = NoMemory; place = 0 } };
+    ghost from_gives = { λ _ fault. fault ≡ no_memory };
 
     fn from(_error: AllocFailed<T>) -> ElfFault {
         ElfKind::NoMemory.at(0)

@@ -16,11 +16,13 @@ pub const PROGRAM_HEADER_SIZE: u16 = 56;
 /// PT_LOAD: the header of a segment to be loaded.
 const PT_LOAD: u32 = 1;
 
-/// PF_X, PF_W and PF_R: a segment's bytes may be executed, written and read.
+/// PF_X: a segment's bytes may be executed.
 const PF_X: u32 = 1;
 
+/// PF_W: they may be written.
 const PF_W: u32 = 2;
 
+/// PF_R: they may be read.
 const PF_R: u32 = 4;
 
 /// What is used of a file header.

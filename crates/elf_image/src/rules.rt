@@ -16,11 +16,13 @@ use crate::span::Span;
 /// The first bytes of e_ident.
 const MAGIC: [u8; 4] = *b"\x7fELF";
 
-/// e_ident[EI_CLASS], e_ident[EI_DATA] and e_ident[EI_VERSION]: 64 bits, little-endian, version 1.
+/// e_ident[EI_CLASS]: 64 bits.
 const ELFCLASS64: u8 = 2;
 
+/// e_ident[EI_DATA]: little-endian.
 const ELFDATA2LSB: u8 = 1;
 
+/// e_ident[EI_VERSION]: the one version.
 const EV_CURRENT: u8 = 1;
 
 /// e_type: an executable with fixed addresses.
@@ -35,15 +37,16 @@ const PT_INTERP: u32 = 3;
 /// The most program headers.
 const MOST_HEADERS: u16 = 64;
 
-/// The addresses that a segment may take.
+/// The lowest address of a segment.
 const LOWEST_ADDRESS: u64 = 0x10000;
 
+/// The first address past all segments.
 const ADDRESS_LIMIT: u64 = 0x7f00_0000_0000;
 
 /// The bytes of an instruction.
 const INSTRUCTION_SIZE: u64 = 4;
 
-/// The places of fields in the file header.
+/// The places of fields in the file header, each under its name.
 const EI_CLASS: u64 = 4;
 
 const EI_DATA: u64 = 5;
