@@ -24,6 +24,9 @@ pub record Outside : Type 0 where
   pub out : SinkView
   pub err : SinkView
 
+abbrev pub outside : ShelfView → SinkView → SinkView → Outside
+outside shelf out err = record { shelf = shelf; out = out; err = err }
+
 -- no sink took anything or failed
 pub record IsSilent (before now : Outside) : Type 0 where
   pub out : IsUntouched before.out now.out

@@ -5,7 +5,7 @@ ghost use Rattle.outside.specs.Sinks.{sink_view};
 ghost use Rattle.linuxulator_cli.specs.Lines.{status_of as status_number};
 ghost use Rattle.linuxulator_cli.specs.Words.{usage_fault, image_name};
 ghost use Rattle.linuxulator_cli.specs.declared.words.UsageFault.{UsageFault};
-ghost use Rattle.linuxulator_cli.specs.Outcome.{Cause, IsProgram, IsLoaded, LoadsNone, RefusesExactly, RefusesHeaders, ExitsExactly, SpendsExactly, StopsExactly, IsComplete, end_of as end_after};
+ghost use Rattle.linuxulator_cli.specs.Outcome.{Cause, IsProgram, IsLoaded, LoadsNone, RefusesExactly, RefusesHeaders, ExitsExactly, SpendsExactly, StopsExactly, IsComplete, outside, end_of as end_after};
 
 use crate::image::read_program;
 use crate::lines::last_line;
@@ -28,8 +28,10 @@ fn end_of(how: RunEnd) -> End
 // Reads the words, and loads the file that they name.
 fn load_image<H: Shelf>(alloc: Global, words: &[String], shelf: &mut H) -> Result<Vec<u8>, End>
     requires { H.loads shelf.old < 2 ^ 64 - 1 }
-    ensures loaded { IfOk result (λ file. IsLoaded (map string_bytes words.now) (shelf_view H.file H.loads H.saves shelf.old) (shelf_view H.file H.loads H.saves shelf.new) file.items) }
-    ensures refused { IfErr result (λ end. LoadsNone (map string_bytes words.now) (shelf_view H.file H.loads H.saves shelf.old) (shelf_view H.file H.loads H.saves shelf.new) end) }
+    ensures loaded { IfOk result (λ file. IsLoaded (map string_bytes words.now)
+        (shelf_view H.file H.loads H.saves shelf.old) (shelf_view H.file H.loads H.saves shelf.new) file.items) }
+    ensures refused { IfErr result (λ end. LoadsNone (map string_bytes words.now)
+        (shelf_view H.file H.loads H.saves shelf.old) (shelf_view H.file H.loads H.saves shelf.new) end) }
 {
     let name = read_words(words).map_err(End::Usage)?;
     match shelf.load(alloc, name, IMAGE_LIMIT) {
@@ -54,8 +56,10 @@ pub fn run_before_last_line<H: Shelf, O: Sink, E: Sink>(
     requires err { E.faults err.old < 2 ^ 64 - 1 }
     ensures status { result.status ≡ status_number result.end }
     ensures cause { Cause (map string_bytes words.now)
-        (record { shelf = shelf_view H.file H.loads H.saves shelf.old; out = sink_view O.taken O.faults out.old; err = sink_view E.taken E.faults err.old })
-        (record { shelf = shelf_view H.file H.loads H.saves shelf.new; out = sink_view O.taken O.faults out.new; err = sink_view E.taken E.faults err.new })
+        (outside (shelf_view H.file H.loads H.saves shelf.old)
+        (sink_view O.taken O.faults out.old) (sink_view E.taken E.faults err.old))
+        (outside (shelf_view H.file H.loads H.saves shelf.new)
+        (sink_view O.taken O.faults out.new) (sink_view E.taken E.faults err.new))
         result.count result.end }
     ensures write { (result.end ≡ End.WriteFault) ↔ ((O.faults out.old < O.faults out.new) ⊎ (E.faults err.old < E.faults err.new)) }
 {
@@ -78,7 +82,7 @@ pub fn run_before_last_line<H: Shelf, O: Sink, E: Sink>(
 
 /// Runs the program that the words name: `run IMAGE`, the words after the program's own name. It loads
 /// the image from the shelf, puts what the guest writes to standard output into `out`, and writes a last
-/// line to `err` where the guest didn't exit. `Definitions` of each clause stand in `specs/Outcome.antt`.
+/// line to `err` where the guest didn't exit. What the clauses say stands in `specs/Outcome.antt`.
 pub fn run_program<H: Shelf, O: Sink, E: Sink>(
     alloc: Global,
     words: &[String],
@@ -93,24 +97,35 @@ pub fn run_program<H: Shelf, O: Sink, E: Sink>(
 
     // Each end with its cause, and then the last line on `err` alone.
     ensures outcome { IsProgram (map string_bytes words.now)
-        (record { shelf = shelf_view H.file H.loads H.saves shelf.old; out = sink_view O.taken O.faults out.old; err = sink_view E.taken E.faults err.old })
-        (record { shelf = shelf_view H.file H.loads H.saves shelf.new; out = sink_view O.taken O.faults out.new; err = sink_view E.taken E.faults err.new })
+        (outside (shelf_view H.file H.loads H.saves shelf.old)
+        (sink_view O.taken O.faults out.old) (sink_view E.taken E.faults err.old))
+        (outside (shelf_view H.file H.loads H.saves shelf.new)
+        (sink_view O.taken O.faults out.new) (sink_view E.taken E.faults err.new))
         result.count result.end }
 
     // Exactly where each end comes.
-    ensures usage { (fault : UsageFault) → (result.end ≡ End.Usage fault) ↔ (usage_fault (map string_bytes words.now) ≡ Some fault) }
+    ensures usage { (fault : UsageFault) →
+        (result.end ≡ End.Usage fault) ↔ (usage_fault (map string_bytes words.now) ≡ Some fault) }
     ensures load { (result.end ≡ End.LoadFault) ↔ (H.loads shelf.old < H.loads shelf.new) }
-    ensures long { (file : List ℕ) → H.file shelf.old (image_name (map string_bytes words.now)) ≡ Some (Some file) →
-        usage_fault (map string_bytes words.now) ≡ None → H.loads shelf.new ≡ H.loads shelf.old → result.end ≢ End.NoMemory →
-        (result.end ≡ End.TooLong) ↔ (IMAGE_LIMIT < length file) }
-    ensures image { RefusesExactly (map string_bytes words.now) (shelf_view H.file H.loads H.saves shelf.old) (shelf_view H.file H.loads H.saves shelf.new) result.end }
-    ensures headers { RefusesHeaders (map string_bytes words.now) (shelf_view H.file H.loads H.saves shelf.old) (shelf_view H.file H.loads H.saves shelf.new) result.count result.end }
-    ensures exited { ExitsExactly (map string_bytes words.now) (shelf_view H.file H.loads H.saves shelf.old) result.count result.end }
-    ensures fuel { SpendsExactly (map string_bytes words.now) (shelf_view H.file H.loads H.saves shelf.old) result.count result.end }
-    ensures not_built { StopsExactly (map string_bytes words.now) (shelf_view H.file H.loads H.saves shelf.old) (shelf_view H.file H.loads H.saves shelf.new) result.count result.end }
+    ensures long { (file : List ℕ) →
+        H.file shelf.old (image_name (map string_bytes words.now)) ≡ Some (Some file) →
+        usage_fault (map string_bytes words.now) ≡ None → H.loads shelf.new ≡ H.loads shelf.old →
+        result.end ≢ End.NoMemory → (result.end ≡ End.TooLong) ↔ (IMAGE_LIMIT < length file) }
+    ensures image { RefusesExactly (map string_bytes words.now)
+        (shelf_view H.file H.loads H.saves shelf.old) (shelf_view H.file H.loads H.saves shelf.new) result.end }
+    ensures headers { RefusesHeaders (map string_bytes words.now)
+        (shelf_view H.file H.loads H.saves shelf.old) (shelf_view H.file H.loads H.saves shelf.new) result.count result.end }
+    ensures exited { ExitsExactly (map string_bytes words.now)
+        (shelf_view H.file H.loads H.saves shelf.old) result.count result.end }
+    ensures fuel { SpendsExactly (map string_bytes words.now)
+        (shelf_view H.file H.loads H.saves shelf.old) result.count result.end }
+    ensures not_built { StopsExactly (map string_bytes words.now)
+        (shelf_view H.file H.loads H.saves shelf.old) (shelf_view H.file H.loads H.saves shelf.new) result.count result.end }
     ensures complete { IsComplete (map string_bytes words.now)
-        (record { shelf = shelf_view H.file H.loads H.saves shelf.old; out = sink_view O.taken O.faults out.old; err = sink_view E.taken E.faults err.old })
-        (record { shelf = shelf_view H.file H.loads H.saves shelf.new; out = sink_view O.taken O.faults out.new; err = sink_view E.taken E.faults err.new })
+        (outside (shelf_view H.file H.loads H.saves shelf.old)
+        (sink_view O.taken O.faults out.old) (sink_view E.taken E.faults err.old))
+        (outside (shelf_view H.file H.loads H.saves shelf.new)
+        (sink_view O.taken O.faults out.new) (sink_view E.taken E.faults err.new))
         result.count result.end }
 {
     let outcome = run_before_last_line(alloc, words, shelf, out, err);
