@@ -7,9 +7,8 @@ mod about;
 use about::about;
 use linuxulator_cli::run_program;
 use outside::{DirShelf, StdSink, put};
-use std::env;
-use std::io;
 use std::process::ExitCode;
+use std::{env, io};
 
 // The status of a failed write to standard output.
 const WRITE_FAILED: u8 = 123;
