@@ -1,6 +1,6 @@
 //! Flags of open files and of mappings. A bit that a map doesn't name is dropped.
-ghost use Rattle.std.specs.Prelude.{◌≡◌, ◌==◌, if◌then◌else◌, bit_and};
-ghost use Rattle.abi_map.specs.Flags.{open_flags_in_of, open_flags_out_of, map_flags_in_of, open_flag_table, map_flag_table, turned, IsMovedBy};
+ghost use Rattle.std.specs.Prelude.{◌≡◌};
+ghost use Rattle.abi_map.specs.Flags.{open_flags_in_of, open_flags_out_of, map_flags_in_of, open_flag_table, map_flag_table, turned, bit_of, IsMovedBy};
 
 use bsd_abi::files as bsd_files;
 use bsd_abi::memory as bsd_memory;
@@ -9,7 +9,7 @@ use linux_abi::memory as linux_memory;
 
 /// The mask `to` where the flags have the bit `from`, and else none.
 fn moved(flags: u64, from: u64, to: u64) -> u64
-    ensures { result ≡ (if bit_and flags from == 0 then 0 else to) }
+    ensures { result ≡ bit_of (from, to) flags }
 {
     if flags & from == 0 { 0 } else { to }
 }
