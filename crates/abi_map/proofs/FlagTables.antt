@@ -8,11 +8,8 @@ use Rattle.std.proofs.lemmas.Nat.{and_or_apart, or_comm, and_comm}
 use Rattle.std.specs.Int.{bit_at}
 use Rattle.std.proofs.lemmas.Nat.Bits.{bit_at_and, bit_at_or, same_from_bits}
 use Rattle.std.proofs.lemmas.List.Elements.{All-from_recursion}
+use Rattle.bsd_abi.proofs.Bits.{or_assoc}
 use Rattle.abi_map.specs.Flags.{bit_of, moved_by, given_by, IsMovedBy}
-
--- the order of two `|` is free
-pub or_assoc : (a b c : ℕ) → bit_or (bit_or a b) c ≡ bit_or a (bit_or b c)
-or_assoc a b c = same_from_bits _ _ (λ i. simp bit_at_or (omega arith))
 
 -- what lies within masks lies within them joined
 within-joined : (a p b q : ℕ) → bit_and a p ≡ a → bit_and b q ≡ b → bit_and (bit_or a b) (bit_or p q) ≡ bit_or a b

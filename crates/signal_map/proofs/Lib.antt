@@ -1,0 +1,3 @@
+pub mod SignalMaps
+pub mod SetMaps
+pub mod SetLoops
