@@ -47,25 +47,28 @@ moved_by-free (row ∷ rows) flags mask free =
 
 -- one more mask changes no row that gives no bit of it
 named-more : (given : ℕ) (none : Bool) (flags rest : ℕ) (rows : List (ℕ × ℕ)) → is_free_of given rows ≡ true
-  → AllByRecursion (λ row. bit_and rest row.1 ≡ bit_of row flags) rows
-  → AllByRecursion (λ row. bit_and (bit_or (if none then 0 else given) rest) row.1 ≡ bit_of row flags) rows
+    → AllByRecursion (λ row. bit_and rest row.1 ≡ bit_of row flags) rows
+    → AllByRecursion (λ row. bit_and (bit_or (if none then 0 else given) rest) row.1 ≡ bit_of row flags) rows
 named-more given none flags rest [] free named = tt
 named-more given none flags rest (row ∷ rows) free named =
     let parts = and_parts _ _ free in
     let apart : bit_and given row.1 ≡ 0 = and_comm given row.1 ∙ eqb-true _ _ parts.0 in
-    let moved = if none then 0 else given in
-    (ap (λ joined. bit_and joined row.1) (or_comm moved rest)
-    ∙ and_or_apart row.1 rest moved (bit-free none given row.1 apart)
-    ∙ named.0, named-more given none flags rest rows parts.1 named.1)
+    let moved = if none then 0 else given in (
+      ap (λ joined. bit_and joined row.1) (or_comm moved rest)
+          ∙ and_or_apart row.1 rest moved (bit-free none given row.1 apart)
+          ∙ named.0,
+      named-more given none flags rest rows parts.1 named.1,
+    )
 
 -- what a table makes of flags has each row's second mask exactly where the flags have its first
 named-all : (rows : List (ℕ × ℕ)) (flags : ℕ) → is_apart rows ≡ true → AllByRecursion (λ row. bit_and (moved_by rows flags) row.1 ≡ bit_of row flags) rows
 named-all [] flags apart = tt
 named-all (row ∷ rows) flags apart =
     let parts = and_parts _ _ apart in
-    let none = bit_and flags row.0 == 0 in
-    (and_or_apart row.1 (bit_of row flags) (moved_by rows flags) (moved_by-free rows flags row.1 parts.0) ∙ bit-own none row.1,
-    named-more row.1 none flags (moved_by rows flags) rows parts.0 (named-all rows flags parts.1))
+    let none = bit_and flags row.0 == 0 in (
+      and_or_apart row.1 (bit_of row flags) (moved_by rows flags) (moved_by-free rows flags row.1 parts.0) ∙ bit-own none row.1,
+      named-more row.1 none flags (moved_by rows flags) rows parts.0 (named-all rows flags parts.1),
+    )
 
 -- and no bit that the table can't give
 given-all : (rows : List (ℕ × ℕ)) (flags : ℕ) → bit_and (moved_by rows flags) (given_by rows) ≡ moved_by rows flags
@@ -83,7 +86,7 @@ moved_by-moves rows flags apart = record {
 
 -- four masks, joined from the left, are what a table of those four rows makes
 pub four_rows : (p q r s : ℕ × ℕ) (flags a b c d : ℕ) → a ≡ bit_of p flags → b ≡ bit_of q flags → c ≡ bit_of r flags → d ≡ bit_of s flags
-  → bit_or (bit_or (bit_or a b) c) d ≡ moved_by (p ∷ q ∷ r ∷ s ∷ []) flags
+    → bit_or (bit_or (bit_or a b) c) d ≡ moved_by (p ∷ q ∷ r ∷ s ∷ []) flags
 four_rows p q r s flags a b c d p_is q_is r_is s_is =
     let joined : bit_or (bit_or (bit_or a b) c) d ≡ bit_or a (bit_or b (bit_or c (bit_or d 0))) = simp (or_assoc, or_zero_r) in
     cc

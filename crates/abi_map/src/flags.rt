@@ -2,10 +2,8 @@
 ghost use Rattle.std.specs.Prelude.{◌≡◌};
 ghost use Rattle.abi_map.specs.Flags.{open_flags_in_of, open_flags_out_of, map_flags_in_of, open_flag_table, map_flag_table, turned, bit_of, IsMovedBy};
 
-use bsd_abi::files as bsd_files;
-use bsd_abi::memory as bsd_memory;
-use linux_abi::files as linux_files;
-use linux_abi::memory as linux_memory;
+use bsd_abi::{files as bsd_files, memory as bsd_memory};
+use linux_abi::{files as linux_files, memory as linux_memory};
 
 /// The mask `to` where the flags have the bit `from`, and else none.
 fn moved(flags: u64, from: u64, to: u64) -> u64

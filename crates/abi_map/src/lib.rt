@@ -8,3 +8,6 @@ pub mod flags;
 
 pub use errors::errno_out;
 pub use flags::{map_flags_in, open_flags_in, open_flags_out};
+
+#[cfg(test)]
+mod tests;

@@ -10,3 +10,6 @@ pub mod signals;
 
 pub use errno::BsdErrno;
 pub use signals::BsdSig;
+
+#[cfg(test)]
+mod tests;

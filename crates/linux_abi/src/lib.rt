@@ -5,6 +5,7 @@
 //! contracts cite stand in `specs/`, a file for each type.
 #![tactic(auto)]
 
+pub mod auxv;
 pub mod calls;
 pub mod epoll;
 pub mod errno;
@@ -18,3 +19,6 @@ pub mod time;
 pub use calls::Call;
 pub use errno::{LinuxErrno, answer};
 pub use signals::LinuxSig;
+
+#[cfg(test)]
+mod tests;

@@ -41,9 +41,9 @@ put_lacking old k j mask mask_is lacking =
 
 -- a turn at the signal at place i keeps the invariant
 pub turn : (from to : BsdSig → ℕ) (signals : List BsdSig) (old i : ℕ) (d : BsdSig) (made next : ℕ) → i < length signals
-  → next ≡ bit_or made (bit_at old (from (get_or signals i d)) * 2 ^ to (get_or signals i d))
-  → bit_or made (moved_bits from to (drop i signals) old) ≡ moved_bits from to signals old
-  → bit_or next (moved_bits from to (drop (i + 1) signals) old) ≡ moved_bits from to signals old
+    → next ≡ bit_or made (bit_at old (from (get_or signals i d)) * 2 ^ to (get_or signals i d))
+    → bit_or made (moved_bits from to (drop i signals) old) ≡ moved_bits from to signals old
+    → bit_or next (moved_bits from to (drop (i + 1) signals) old) ≡ moved_bits from to signals old
 turn from to signals old i d made next within next_is so_far =
     let s = get_or signals i d in
     let rest = moved_bits from to (drop (suc i) signals) old in
@@ -54,7 +54,7 @@ turn from to signals old i d made next within next_is so_far =
 
 -- and behind the last the set is made
 pub made_whole : (from to : BsdSig → ℕ) (signals : List BsdSig) (old i made : ℕ) → length signals ≤ i
-  → bit_or made (moved_bits from to (drop i signals) old) ≡ moved_bits from to signals old
-  → made ≡ moved_bits from to signals old
+    → bit_or made (moved_bits from to (drop i signals) old) ≡ moved_bits from to signals old
+    → made ≡ moved_bits from to signals old
 made_whole from to signals old i made end so_far =
     sym (or_zero_r made) ∙ ap (λ rest. bit_or made (moved_bits from to rest old)) (sym (drop_all i signals end)) ∙ so_far

@@ -49,8 +49,8 @@ moved_bits-free from to (s ∷ signals) set k free =
 
 -- one more signal's bit changes none of the others'
 named-more : (from to : BsdSig → ℕ) (set b k rest : ℕ) (signals : List BsdSig) → b < 2 → is_free_of to k signals ≡ true
-  → AllByRecursion (λ s. bit_at rest (to s) ≡ bit_at set (from s)) signals
-  → AllByRecursion (λ s. bit_at (bit_or (b * 2 ^ k) rest) (to s) ≡ bit_at set (from s)) signals
+    → AllByRecursion (λ s. bit_at rest (to s) ≡ bit_at set (from s)) signals
+    → AllByRecursion (λ s. bit_at (bit_or (b * 2 ^ k) rest) (to s) ≡ bit_at set (from s)) signals
 named-more from to set b k rest [] small free named = tt
 named-more from to set b k rest (s ∷ signals) small free named =
     let parts = and_parts _ _ free in
@@ -59,17 +59,19 @@ named-more from to set b k rest (s ∷ signals) small free named =
 
 -- each signal's bit goes to its place, where no two have one
 named-all : (from to : BsdSig → ℕ) (signals : List BsdSig) (set : ℕ) → is_distinct to signals ≡ true
-  → AllByRecursion (λ s. bit_at (moved_bits from to signals set) (to s) ≡ bit_at set (from s)) signals
+    → AllByRecursion (λ s. bit_at (moved_bits from to signals set) (to s) ≡ bit_at set (from s)) signals
 named-all from to [] set distinct = tt
 named-all from to (s ∷ signals) set distinct =
     let parts = and_parts _ _ distinct in
     let b = bit_at set (from s) in
     let rest = moved_bits from to signals set in
-    let small : b < 2 = bit_at-lt set (from s) in
-    (bit_at_or _ _ (to s)
-    ∙ ap (λ n. max n (bit_at rest (to s))) (bit_at-put_same b (to s) small)
-    ∙ ap (λ n. max b n) (moved_bits-free from to signals set (to s) parts.0)
-    ∙ max-zero _, named-more from to set b (to s) rest signals small parts.0 (named-all from to signals set parts.1))
+    let small : b < 2 = bit_at-lt set (from s) in (
+      bit_at_or _ _ (to s)
+          ∙ ap (λ n. max n (bit_at rest (to s))) (bit_at-put_same b (to s) small)
+          ∙ ap (λ n. max b n) (moved_bits-free from to signals set (to s) parts.0)
+          ∙ max-zero _,
+      named-more from to set b (to s) rest signals small parts.0 (named-all from to signals set parts.1),
+    )
 
 -- where no signal at all has its bit at k, none of the list has
 is_free_of-none : (to : BsdSig → ℕ) (k : ℕ) (signals : List BsdSig) → ((s : BsdSig) → to s ≢ k) → is_free_of to k signals ≡ true
@@ -79,11 +81,11 @@ is_free_of-none to k (s ∷ signals) none = both_true (ap not (ne_eqb (to s) k (
 -- so a map of sets does what it says, where no two signals have one bit
 moved_bits-moves : (from to : BsdSig → ℕ) (set : ℕ) → is_distinct to all_signals ≡ true → MovesSignals from to set (moved_bits from to all_signals set)
 moved_bits-moves from to set distinct =
-  let Moved : BsdSig → Type 0 = λ s. bit_at (moved_bits from to all_signals set) (to s) ≡ bit_at set (from s) in
-  record {
-  each = each_listed Moved (All-from_recursion Moved all_signals (named-all from to all_signals set distinct));
-  no_other = λ k none. moved_bits-free from to all_signals set k (is_free_of-none to k all_signals none);
-}
+    let Moved : BsdSig → Type 0 = λ s. bit_at (moved_bits from to all_signals set) (to s) ≡ bit_at set (from s) in
+    record {
+      each = each_listed Moved (All-from_recursion Moved all_signals (named-all from to all_signals set distinct));
+      no_other = λ k none. moved_bits-free from to all_signals set k (is_free_of-none to k all_signals none);
+    }
 
 -- the table passes both tests
 pub set_in-moves : (set : ℕ) → MovesSignals linux_bit bsd_bit set (set_in_of set)
@@ -104,11 +106,11 @@ linux_bit-at_place k within = omega (arith, number-at k SIGHUP within)
 -- a Linux set leads back to itself
 pub set_out-in : (set : ℕ) → set < 2 ^ 64 → set_out_of (set_in_of set) ≡ set
 set_out-in set small = same_from_bits _ _ (λ k. elim (cases_lt k 64) [
-  inl within ↦
-    let s = at_place k in
-    let Same : ℕ → Type 0 = λ j. bit_at (set_out_of (set_in_of set)) j ≡ bit_at set j in
-    subst Same (linux_bit-at_place k within) ((set_out-moves (set_in_of set)).each s ∙ (set_in-moves set).each s)
+  | inl within ↦
+      let s = at_place k in
+      let Same : ℕ → Type 0 = λ j. bit_at (set_out_of (set_in_of set)) j ≡ bit_at set j in
+      subst Same (linux_bit-at_place k within) ((set_out-moves (set_in_of set)).each s ∙ (set_in-moves set).each s)
   | inr above ↦
-    (set_out-moves (set_in_of set)).no_other k (λ s same. (let place = all_signals-place s in absurd (omega (arith, place.0))))
-    ∙ sym (bit_at_above set 64 k small above)
-  ])
+      (set_out-moves (set_in_of set)).no_other k (λ s same. (let place = all_signals-place s in absurd (omega (arith, place.0))))
+      ∙ sym (bit_at_above set 64 k small above)
+])

@@ -9,3 +9,6 @@ pub mod signals;
 
 pub use sets::{set_in, set_out};
 pub use signals::{signal_in, signal_out};
+
+#[cfg(test)]
+mod tests;

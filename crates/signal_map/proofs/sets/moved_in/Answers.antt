@@ -11,14 +11,14 @@ loop-signal-preserved c =
     let made = c.loop-signal.bsd in
     let mask_is = shifted _ _ 64 c.place.ensures.value (omega arith) in
     elim c.if-linux-place-ne0.branch [
-      then-linux-place-ne0 w ↦
-        turn linux_bit bsd_bit _ _ _ _ made _ c.loop-signal-test.true
-        (w.bsd-is ∙ ap (bit_or made) (put_found _ _ _ _ _ mask_is w.if-linux-place-ne0.true w.bit-bsd.ensures))
-        c.loop-signal.invariant
-    | else-linux-place-ne0 w ↦
-        turn linux_bit bsd_bit _ _ _ _ made _ c.loop-signal-test.true
-        (w.bsd-is ∙ sym (ap (bit_or made) (put_lacking _ _ _ _ mask_is w.if-linux-place-ne0.false) ∙ or_zero_r made))
-        c.loop-signal.invariant
+      | then-linux-place-ne0 w ↦
+          turn linux_bit bsd_bit _ _ _ _ made _ c.loop-signal-test.true
+          (w.bsd-is ∙ ap (bit_or made) (put_found _ _ _ _ _ mask_is w.if-linux-place-ne0.true w.bit-bsd.ensures))
+          c.loop-signal.invariant
+      | else-linux-place-ne0 w ↦
+          turn linux_bit bsd_bit _ _ _ _ made _ c.loop-signal-test.true
+          (w.bsd-is ∙ sym (ap (bit_or made) (put_lacking _ _ _ _ mask_is w.if-linux-place-ne0.false) ∙ or_zero_r made))
+          c.loop-signal.invariant
     ]
 
 pub returns : goal.returns
