@@ -6,7 +6,7 @@ use Rattle.std.proofs.lemmas.List.Sums.{AllPass-from_list_all}
 use Rattle.std.specs.Prelude.{◌&&◌, Option, None, Some, IfNone}
 use Rattle.bsd_abi.specs.declared.signals.BsdSig.{BsdSig}
 use Rattle.bsd_abi.specs.declared.signals.BsdSig.TheVariants as signal
-use Rattle.bsd_abi.specs.BsdSig.{linux_signal_number, bsd_signal_number, linux_bit, all_signals, bsd_signal_of}
+use Rattle.bsd_abi.specs.BsdSig.{linux_signal_number, bsd_signal_number, place_of, all_signals, bsd_signal_of}
 
 -- each signal is found by its number
 pub bsd_signal_of-number : (s : BsdSig) → bsd_signal_of (bsd_signal_number s) ≡ Some s
@@ -99,7 +99,7 @@ pub number-at : (k : ℕ) (d : BsdSig) → k < 64 → linux_signal_number (get_o
 number-at k d within = omega (arith, number-counted all_signals 1 k d refl within)
 
 -- each signal stands at its place
-pub all_signals-place : (s : BsdSig) → (linux_bit s < 64) × (get_or all_signals (linux_bit s) s ≡ s)
+pub all_signals-place : (s : BsdSig) → (place_of s < 64) × (get_or all_signals (place_of s) s ≡ s)
 all_signals-place signal.SIGHUP = (lit< tt, refl)
 all_signals-place signal.SIGINT = (lit< tt, refl)
 all_signals-place signal.SIGQUIT = (lit< tt, refl)
@@ -169,7 +169,7 @@ all_signals-place signal.SIGRT32 = (lit< tt, refl)
 pub each_listed : (P : BsdSig → Type 0) → All P all_signals → (s : BsdSig) → P s
 each_listed P all s =
     let place = all_signals-place s in
-    All-contains P all_signals s all (linux_bit s, place.0, place.1)
+    All-contains P all_signals s all (place_of s, place.0, place.1)
 
 -- so a test that is true of the whole list is true of each signal
 pub each_signal : (test : BsdSig → Bool) → list_all test all_signals ≡ true → (s : BsdSig) → test s ≡ true

@@ -161,9 +161,9 @@ bsd_signal_number signal = (signal_numbers signal).1
 unfoldable pub bsd_signal_of : ℕ → Option BsdSig
 bsd_signal_of n = find (λ signal. bsd_signal_number signal == n) all_signals
 
--- the bit of a signal in a Linux set, which is also its place in the order
-abbrev pub linux_bit : BsdSig → ℕ
-linux_bit signal = linux_signal_number signal - 1
+-- the place in the order, from 0
+abbrev pub place_of : BsdSig → ℕ
+place_of signal = linux_signal_number signal - 1
 
 -- the bit of a signal in a FreeBSD set
 abbrev pub bsd_bit : BsdSig → ℕ

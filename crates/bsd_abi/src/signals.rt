@@ -1,7 +1,7 @@
 //! Signals by FreeBSD's numbers, in the order of Linux's.
 ghost use Rattle.std.specs.Prelude.{◌≡◌, ◌≢◌, ◌+◌, ◌^◌, ◌<◌, Some, IfSome, IfNone};
 ghost use Rattle.bsd_abi.specs.declared.signals.BsdSig.{BsdSig};
-ghost use Rattle.bsd_abi.specs.BsdSig.{linux_signal_number, bsd_signal_number, linux_bit, bsd_bit, bsd_signal_of, is_real_time, is_dropped_by_default};
+ghost use Rattle.bsd_abi.specs.BsdSig.{linux_signal_number, bsd_signal_number, place_of, bsd_bit, bsd_signal_of, is_real_time, is_dropped_by_default};
 
 /// The signals that are never blocked, as a set: SIGKILL, which is 9, and SIGSTOP, which is 17 (sigprocmask(2)).
 pub const UNBLOCKABLE: u128 = 1 << 8 | 1 << 16;
@@ -363,19 +363,11 @@ impl BsdSig {
 
     /// The place in the order, from 0: one less than the signal's number on Linux.
     pub fn place(self) -> u8
-        ensures value { result ≡ linux_bit self }
+        ensures value { result ≡ place_of self }
         ensures number { linux_signal_number self ≡ result + 1 }
         ensures bound { result < 64 }
     {
         self as u8
-    }
-
-    /// The signal at a place in the order, from 0.
-    pub fn at(place: u8) -> BsdSig
-        requires { place < 64 }
-        ensures { linux_signal_number result ≡ place + 1 }
-    {
-        Self::ALL[place as usize]
     }
 
     /// The set with this signal alone: signal n is bit n - 1 (sigprocmask(2)).

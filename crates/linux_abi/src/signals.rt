@@ -1,44 +1,10 @@
 //! Signals by number, and flags and choices of the signal calls.
-ghost use Rattle.std.specs.Prelude.{◌≡◌, ◌-◌, ◌^◌, ◌<◌, ◌≤◌, ◌⊎◌, Some, IfSome, IfNone};
-ghost use Rattle.linux_abi.specs.LinuxSig.{linux_bit_of, is_real_time, is_dropped_by_default};
+ghost use Rattle.std.specs.Prelude.{◌≡◌, ◌^◌, ◌<◌, ◌≤◌, ◌⊎◌, ◌↔◌, Some, IfSome, IsNone};
+ghost use Rattle.linux_abi.specs.LinuxSig.{linux_number, linux_bit, linux_signal_of, is_real_time, is_dropped_by_default};
 ghost use Rattle.linux_abi.specs.MaskChange.{mask_change_number, mask_change_of};
 
-use std::marker::Model;
-
-/// An illegal instruction (signal(7)).
-pub const SIGILL: u8 = 4;
-/// A breakpoint (signal(7)).
-pub const SIGTRAP: u8 = 5;
-/// A bad access to memory (signal(7)).
-pub const SIGBUS: u8 = 7;
-/// Ends the guest; never blocked (signal(7)).
-pub const SIGKILL: u8 = 9;
-/// A reference to memory without the right (signal(7)).
-pub const SIGSEGV: u8 = 11;
-/// A write to a pipe without a reader (signal(7)).
-pub const SIGPIPE: u8 = 13;
-/// A child ended; ignored by default (signal(7)).
-pub const SIGCHLD: u8 = 17;
-/// Goes on; ignored by default (signal(7)).
-pub const SIGCONT: u8 = 18;
-/// Stops; never blocked, and discarded by default (signal(7)).
-pub const SIGSTOP: u8 = 19;
-/// A stop from the terminal; discarded by default (signal(7)).
-pub const SIGTSTP: u8 = 20;
-/// A read of the terminal from the background; discarded by default (signal(7)).
-pub const SIGTTIN: u8 = 21;
-/// A write to the terminal from the background; discarded by default (signal(7)).
-pub const SIGTTOU: u8 = 22;
-/// Urgent data at a socket; ignored by default (signal(7)).
-pub const SIGURG: u8 = 23;
-/// The window's size changed; ignored by default (signal(7)).
-pub const SIGWINCH: u8 = 28;
-/// The least real-time signal, as the kernel counts (signal(7)).
-pub const SIGRTMIN: u8 = 32;
-/// The greatest signal (signal(7)).
-pub const SIGRTMAX: u8 = 64;
-/// The signals that are never blocked, as a set: SIGKILL and SIGSTOP (sigprocmask(2)).
-pub const UNBLOCKABLE: u64 = 1 << (SIGKILL - 1) | 1 << (SIGSTOP - 1);
+/// The signals that are never blocked, as a set: SIGKILL, which is 9, and SIGSTOP, which is 19 (sigprocmask(2)).
+pub const UNBLOCKABLE: u64 = 1 << 8 | 1 << 18;
 
 /// The handler that says: the default action (sigaction(2)).
 pub const SIG_DFL: u64 = 0;
@@ -81,68 +47,256 @@ pub const ILL_ILLOPC: i32 = 1;
 /// The code of a SIGTRAP by a breakpoint (sigaction(2)).
 pub const TRAP_BRKPT: i32 = 1;
 
-/// A signal by Linux's number, from 1 to 64 (signal(7)). Contracts see that number.
+/// The signals, in the order of their numbers, in which they compare (signal(7)).
+///
+/// SIGRT0 to SIGRT32 are the real-time signals, as the kernel counts them.
 #[derive(Clone, Copy, Debug, PartialEq, Eq, PartialOrd, Ord)]
-pub struct LinuxSig {
-    number: u8,
-}
-
-impl Model for LinuxSig {
-    ghost use Rattle.std.specs.Prelude.{ℕ, ◌≤◌};
-
-    ghost Value = { ℕ };
-
-    ghost view = { λ signal. signal.number };
-
-    ghost invariant = { λ signal. (1 ≤ signal.number) × (signal.number ≤ 64) };
-
-    ghost inverse = { λ n. record { number = n } };
+pub enum LinuxSig {
+    /// The terminal was hung up.
+    SIGHUP = 1,
+    /// An interrupt from the keyboard.
+    SIGINT,
+    /// A quit from the keyboard.
+    SIGQUIT,
+    /// An illegal instruction.
+    SIGILL,
+    /// A breakpoint.
+    SIGTRAP,
+    /// The program gave up.
+    SIGABRT,
+    /// A bad access to memory.
+    SIGBUS,
+    /// An arithmetic fault.
+    SIGFPE,
+    /// Ends the guest; never blocked.
+    SIGKILL,
+    /// A signal of the user's, the first.
+    SIGUSR1,
+    /// A reference to memory without the right.
+    SIGSEGV,
+    /// A signal of the user's, the second.
+    SIGUSR2,
+    /// A write to a pipe without a reader.
+    SIGPIPE,
+    /// A timer ran out.
+    SIGALRM,
+    /// A wish that the program ends.
+    SIGTERM,
+    /// A stack fault of a coprocessor.
+    SIGSTKFLT,
+    /// A child ended; dropped by default.
+    SIGCHLD,
+    /// Goes on; dropped by default.
+    SIGCONT,
+    /// Stops; never blocked, and dropped by default.
+    SIGSTOP,
+    /// A stop from the terminal; dropped by default.
+    SIGTSTP,
+    /// A read of the terminal from the background; dropped by default.
+    SIGTTIN,
+    /// A write to the terminal from the background; dropped by default.
+    SIGTTOU,
+    /// Urgent data at a socket; dropped by default.
+    SIGURG,
+    /// The processor time is used up.
+    SIGXCPU,
+    /// A file grew too large.
+    SIGXFSZ,
+    /// A timer of the process's own time ran out.
+    SIGVTALRM,
+    /// A timer of profiling ran out.
+    SIGPROF,
+    /// The window's size changed; dropped by default.
+    SIGWINCH,
+    /// Input or output is possible.
+    SIGIO,
+    /// The power fails.
+    SIGPWR,
+    /// A bad call.
+    SIGSYS,
+    /// Real-time signal 0.
+    SIGRT0,
+    /// Real-time signal 1.
+    SIGRT1,
+    /// Real-time signal 2.
+    SIGRT2,
+    /// Real-time signal 3.
+    SIGRT3,
+    /// Real-time signal 4.
+    SIGRT4,
+    /// Real-time signal 5.
+    SIGRT5,
+    /// Real-time signal 6.
+    SIGRT6,
+    /// Real-time signal 7.
+    SIGRT7,
+    /// Real-time signal 8.
+    SIGRT8,
+    /// Real-time signal 9.
+    SIGRT9,
+    /// Real-time signal 10.
+    SIGRT10,
+    /// Real-time signal 11.
+    SIGRT11,
+    /// Real-time signal 12.
+    SIGRT12,
+    /// Real-time signal 13.
+    SIGRT13,
+    /// Real-time signal 14.
+    SIGRT14,
+    /// Real-time signal 15.
+    SIGRT15,
+    /// Real-time signal 16.
+    SIGRT16,
+    /// Real-time signal 17.
+    SIGRT17,
+    /// Real-time signal 18.
+    SIGRT18,
+    /// Real-time signal 19.
+    SIGRT19,
+    /// Real-time signal 20.
+    SIGRT20,
+    /// Real-time signal 21.
+    SIGRT21,
+    /// Real-time signal 22.
+    SIGRT22,
+    /// Real-time signal 23.
+    SIGRT23,
+    /// Real-time signal 24.
+    SIGRT24,
+    /// Real-time signal 25.
+    SIGRT25,
+    /// Real-time signal 26.
+    SIGRT26,
+    /// Real-time signal 27.
+    SIGRT27,
+    /// Real-time signal 28.
+    SIGRT28,
+    /// Real-time signal 29.
+    SIGRT29,
+    /// Real-time signal 30.
+    SIGRT30,
+    /// Real-time signal 31.
+    SIGRT31,
+    /// Real-time signal 32.
+    SIGRT32,
 }
 
 impl LinuxSig {
     /// The signal of a number, and None exactly where the number is 0 or above 64.
+    #[tactic(auto, unfolding(crate::specs::LinuxSig::linux_signal_of))]
     pub fn new(n: u64) -> Option<LinuxSig>
-        ensures some { IfSome result (λ signal. (signal ≡ n) × (1 ≤ n) × (n ≤ 64)) }
-        ensures none { IfNone result ((n ≡ 0) ⊎ (64 < n)) }
+        ensures value { result ≡ linux_signal_of n }
+        ensures some { IfSome result (λ signal. linux_number signal ≡ n) }
+        ensures none { IsNone result ↔ ((n ≡ 0) ⊎ (64 < n)) }
     {
-        if (1..=u64::from(SIGRTMAX)).contains(&n) {
-            Some(LinuxSig { number: n as u8 })
-        } else {
-            None
+        match n {
+            1 => Some(LinuxSig::SIGHUP),
+            2 => Some(LinuxSig::SIGINT),
+            3 => Some(LinuxSig::SIGQUIT),
+            4 => Some(LinuxSig::SIGILL),
+            5 => Some(LinuxSig::SIGTRAP),
+            6 => Some(LinuxSig::SIGABRT),
+            7 => Some(LinuxSig::SIGBUS),
+            8 => Some(LinuxSig::SIGFPE),
+            9 => Some(LinuxSig::SIGKILL),
+            10 => Some(LinuxSig::SIGUSR1),
+            11 => Some(LinuxSig::SIGSEGV),
+            12 => Some(LinuxSig::SIGUSR2),
+            13 => Some(LinuxSig::SIGPIPE),
+            14 => Some(LinuxSig::SIGALRM),
+            15 => Some(LinuxSig::SIGTERM),
+            16 => Some(LinuxSig::SIGSTKFLT),
+            17 => Some(LinuxSig::SIGCHLD),
+            18 => Some(LinuxSig::SIGCONT),
+            19 => Some(LinuxSig::SIGSTOP),
+            20 => Some(LinuxSig::SIGTSTP),
+            21 => Some(LinuxSig::SIGTTIN),
+            22 => Some(LinuxSig::SIGTTOU),
+            23 => Some(LinuxSig::SIGURG),
+            24 => Some(LinuxSig::SIGXCPU),
+            25 => Some(LinuxSig::SIGXFSZ),
+            26 => Some(LinuxSig::SIGVTALRM),
+            27 => Some(LinuxSig::SIGPROF),
+            28 => Some(LinuxSig::SIGWINCH),
+            29 => Some(LinuxSig::SIGIO),
+            30 => Some(LinuxSig::SIGPWR),
+            31 => Some(LinuxSig::SIGSYS),
+            32 => Some(LinuxSig::SIGRT0),
+            33 => Some(LinuxSig::SIGRT1),
+            34 => Some(LinuxSig::SIGRT2),
+            35 => Some(LinuxSig::SIGRT3),
+            36 => Some(LinuxSig::SIGRT4),
+            37 => Some(LinuxSig::SIGRT5),
+            38 => Some(LinuxSig::SIGRT6),
+            39 => Some(LinuxSig::SIGRT7),
+            40 => Some(LinuxSig::SIGRT8),
+            41 => Some(LinuxSig::SIGRT9),
+            42 => Some(LinuxSig::SIGRT10),
+            43 => Some(LinuxSig::SIGRT11),
+            44 => Some(LinuxSig::SIGRT12),
+            45 => Some(LinuxSig::SIGRT13),
+            46 => Some(LinuxSig::SIGRT14),
+            47 => Some(LinuxSig::SIGRT15),
+            48 => Some(LinuxSig::SIGRT16),
+            49 => Some(LinuxSig::SIGRT17),
+            50 => Some(LinuxSig::SIGRT18),
+            51 => Some(LinuxSig::SIGRT19),
+            52 => Some(LinuxSig::SIGRT20),
+            53 => Some(LinuxSig::SIGRT21),
+            54 => Some(LinuxSig::SIGRT22),
+            55 => Some(LinuxSig::SIGRT23),
+            56 => Some(LinuxSig::SIGRT24),
+            57 => Some(LinuxSig::SIGRT25),
+            58 => Some(LinuxSig::SIGRT26),
+            59 => Some(LinuxSig::SIGRT27),
+            60 => Some(LinuxSig::SIGRT28),
+            61 => Some(LinuxSig::SIGRT29),
+            62 => Some(LinuxSig::SIGRT30),
+            63 => Some(LinuxSig::SIGRT31),
+            64 => Some(LinuxSig::SIGRT32),
+            _ => None,
         }
     }
 
     /// Linux's number of the signal, from 1 to 64.
+    #[tactic(auto, unfolding(crate::specs::LinuxSig::linux_signal_of))]
     pub fn number(self) -> u8
-        ensures value { result ≡ self }
-        ensures low { 1 ≤ result }
-        ensures high { result ≤ 64 }
+        ensures value { result ≡ linux_number self }
+        ensures range { (1 ≤ result) × (result ≤ 64) }
+        ensures back { linux_signal_of result ≡ Some self }
     {
-        self.number
+        self as u8
     }
 
     /// The set with this signal alone: signal n is bit n - 1 (sigprocmask(2)).
     pub fn bit(self) -> u64
-        ensures { result ≡ 2 ^ linux_bit_of self }
+        ensures { result ≡ 2 ^ linux_bit self }
     {
-        1 << (self.number - 1)
+        1 << (self.number() - 1)
     }
 
-    /// Whether it is a real-time signal, from SIGRTMIN on: of these each one that is sent is kept (signal(7)).
+    /// Whether it is a real-time signal: of these each one that is sent is kept (signal(7)).
     pub fn is_real_time(self) -> bool
         ensures { result ≡ is_real_time self }
     {
-        self.number >= SIGRTMIN
+        self >= LinuxSig::SIGRT0
     }
 
     /// Whether it is ignored or discarded by default. Any other signal ends the guest then (signal(7)).
-    #[tactic(auto, unfolding(crate::specs::LinuxSig::is_dropped_by_default))]
     pub fn is_dropped_by_default(self) -> bool
         ensures { result ≡ is_dropped_by_default self }
     {
         matches!(
-            self.number,
-            SIGCHLD | SIGCONT | SIGSTOP | SIGTSTP | SIGTTIN | SIGTTOU | SIGURG | SIGWINCH
+            self,
+            LinuxSig::SIGCHLD
+                | LinuxSig::SIGCONT
+                | LinuxSig::SIGSTOP
+                | LinuxSig::SIGTSTP
+                | LinuxSig::SIGTTIN
+                | LinuxSig::SIGTTOU
+                | LinuxSig::SIGURG
+                | LinuxSig::SIGWINCH
         )
     }
 }

@@ -126,23 +126,89 @@ fn calls_have_their_numbers_and_names(rt: HostRuntime) {
 
 #[test]
 fn signals_are_1_to_64(rt: HostRuntime) {
+    let table = [
+        (LinuxSig::SIGHUP, 1),
+        (LinuxSig::SIGINT, 2),
+        (LinuxSig::SIGQUIT, 3),
+        (LinuxSig::SIGILL, 4),
+        (LinuxSig::SIGTRAP, 5),
+        (LinuxSig::SIGABRT, 6),
+        (LinuxSig::SIGBUS, 7),
+        (LinuxSig::SIGFPE, 8),
+        (LinuxSig::SIGKILL, 9),
+        (LinuxSig::SIGUSR1, 10),
+        (LinuxSig::SIGSEGV, 11),
+        (LinuxSig::SIGUSR2, 12),
+        (LinuxSig::SIGPIPE, 13),
+        (LinuxSig::SIGALRM, 14),
+        (LinuxSig::SIGTERM, 15),
+        (LinuxSig::SIGSTKFLT, 16),
+        (LinuxSig::SIGCHLD, 17),
+        (LinuxSig::SIGCONT, 18),
+        (LinuxSig::SIGSTOP, 19),
+        (LinuxSig::SIGTSTP, 20),
+        (LinuxSig::SIGTTIN, 21),
+        (LinuxSig::SIGTTOU, 22),
+        (LinuxSig::SIGURG, 23),
+        (LinuxSig::SIGXCPU, 24),
+        (LinuxSig::SIGXFSZ, 25),
+        (LinuxSig::SIGVTALRM, 26),
+        (LinuxSig::SIGPROF, 27),
+        (LinuxSig::SIGWINCH, 28),
+        (LinuxSig::SIGIO, 29),
+        (LinuxSig::SIGPWR, 30),
+        (LinuxSig::SIGSYS, 31),
+        (LinuxSig::SIGRT0, 32),
+        (LinuxSig::SIGRT1, 33),
+        (LinuxSig::SIGRT2, 34),
+        (LinuxSig::SIGRT3, 35),
+        (LinuxSig::SIGRT4, 36),
+        (LinuxSig::SIGRT5, 37),
+        (LinuxSig::SIGRT6, 38),
+        (LinuxSig::SIGRT7, 39),
+        (LinuxSig::SIGRT8, 40),
+        (LinuxSig::SIGRT9, 41),
+        (LinuxSig::SIGRT10, 42),
+        (LinuxSig::SIGRT11, 43),
+        (LinuxSig::SIGRT12, 44),
+        (LinuxSig::SIGRT13, 45),
+        (LinuxSig::SIGRT14, 46),
+        (LinuxSig::SIGRT15, 47),
+        (LinuxSig::SIGRT16, 48),
+        (LinuxSig::SIGRT17, 49),
+        (LinuxSig::SIGRT18, 50),
+        (LinuxSig::SIGRT19, 51),
+        (LinuxSig::SIGRT20, 52),
+        (LinuxSig::SIGRT21, 53),
+        (LinuxSig::SIGRT22, 54),
+        (LinuxSig::SIGRT23, 55),
+        (LinuxSig::SIGRT24, 56),
+        (LinuxSig::SIGRT25, 57),
+        (LinuxSig::SIGRT26, 58),
+        (LinuxSig::SIGRT27, 59),
+        (LinuxSig::SIGRT28, 60),
+        (LinuxSig::SIGRT29, 61),
+        (LinuxSig::SIGRT30, 62),
+        (LinuxSig::SIGRT31, 63),
+        (LinuxSig::SIGRT32, 64),
+    ];
+    for (signal, number) in table {
+        assert_eq!(rt; signal.number(), number);
+        assert_eq!(rt; LinuxSig::new(u64::from(number)), Some(signal));
+        assert_eq!(rt; signal.bit().count_ones(), 1);
+        assert_eq!(rt; signal.bit().trailing_zeros() + 1, u32::from(number));
+        assert_eq!(rt; signal.is_real_time(), number >= 32);
+        let dropped = matches!(number, 17..=23 | 28);
+        assert_eq!(rt; signal.is_dropped_by_default(), dropped);
+    }
     for number in [0, 65, 66, 256, 257, 320, u64::MAX] {
         assert!(rt; LinuxSig::new(number).is_none(), "{number}");
     }
-    for number in 1..=64u8 {
-        let signal = LinuxSig::new(u64::from(number));
-        assert_eq!(rt; signal.map(|s| s.number()), Some(number));
-        assert_eq!(rt; signal.map(|s| s.is_real_time()), Some(number >= 32));
-        let dropped = [17, 18, 19, 20, 21, 22, 23, 28].contains(&number);
-        assert_eq!(rt; signal.map(|s| s.is_dropped_by_default()), Some(dropped));
-    }
-    assert_eq!(rt; LinuxSig::new(1).map(|s| s.bit()), Some(1));
-    assert_eq!(rt; LinuxSig::new(9).map(|s| s.bit()), Some(0x100));
+    assert!(rt; LinuxSig::SIGKILL < LinuxSig::SIGRT2);
     assert_eq!(rt;
-        LinuxSig::new(64).map(|s| s.bit()),
-        Some(0x8000_0000_0000_0000)
+        signals::UNBLOCKABLE,
+        LinuxSig::SIGKILL.bit() | LinuxSig::SIGSTOP.bit()
     );
-    assert!(rt; LinuxSig::new(9) < LinuxSig::new(34));
 }
 
 #[test]
@@ -288,26 +354,5 @@ fn flags_have_their_numbers(rt: HostRuntime) {
     ];
     for (code, number) in fields {
         assert_eq!(rt; code, number);
-    }
-    let numbers = [
-        (signals::SIGILL, 4),
-        (signals::SIGTRAP, 5),
-        (signals::SIGBUS, 7),
-        (signals::SIGKILL, 9),
-        (signals::SIGSEGV, 11),
-        (signals::SIGPIPE, 13),
-        (signals::SIGCHLD, 17),
-        (signals::SIGCONT, 18),
-        (signals::SIGSTOP, 19),
-        (signals::SIGTSTP, 20),
-        (signals::SIGTTIN, 21),
-        (signals::SIGTTOU, 22),
-        (signals::SIGURG, 23),
-        (signals::SIGWINCH, 28),
-        (signals::SIGRTMIN, 32),
-        (signals::SIGRTMAX, 64),
-    ];
-    for (signal, number) in numbers {
-        assert_eq!(rt; signal, number);
     }
 }

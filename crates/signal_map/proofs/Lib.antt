@@ -1,3 +1,2 @@
-pub mod SignalMaps
 pub mod SetMaps
 pub mod SetLoops

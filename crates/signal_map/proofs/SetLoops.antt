@@ -3,15 +3,11 @@ use Rattle.std.proofs.Common.{◌≡◌, ◌≢◌, ℕ, zero, suc, ◌+◌, ◌
 use Rattle.std.specs.Int.{bit_at}
 use Rattle.std.specs.Int.Bits.{or_zero_r}
 use Rattle.std.proofs.lemmas.List.{drop_all}
-use Rattle.std.proofs.lemmas.Nat.{one_shl, pow_pos}
+use Rattle.std.proofs.lemmas.Nat.{pow_pos}
 use Rattle.std.proofs.lemmas.Nat.Bits.{and_pow, bit_at-lt}
 use Rattle.bsd_abi.proofs.Bits.{or_assoc}
 use Rattle.bsd_abi.specs.declared.signals.BsdSig.{BsdSig}
 use Rattle.signal_map.specs.Sets.{moved_bits}
-
--- what `1 << place` computes
-pub shifted : (place bit width : ℕ) → place ≡ bit → place < width → 1 * 2 ^ place % 2 ^ width ≡ 2 ^ bit
-shifted place bit width is within = one_shl place width within ∙ ap (λ k. 2 ^ k) is
 
 -- a bit that the mask finds is 1
 bit_found : (b k : ℕ) → b < 2 → b * 2 ^ k ≢ 0 → b ≡ 1

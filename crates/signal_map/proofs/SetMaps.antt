@@ -1,19 +1,21 @@
 -- What the two maps of sets do to each bit, from tests of the whole table of signals.
-use Rattle.std.proofs.Common.{◌≡◌, ◌≢◌, ℕ, zero, suc, ◌+◌, ◌*◌, ◌^◌, ◌<◌, ◌≤◌, ◌==◌, ◌∙◌, max, Bool, true, false, List, [], ◌∷◌, get_or, bit_or, refl, sym, ap, subst, arith, inl, inr, ◌⊎◌}
+use Rattle.std.proofs.Common.{◌≡◌, ◌≢◌, ℕ, zero, suc, ◌+◌, ◌*◌, ◌^◌, ◌<◌, ◌≤◌, ◌==◌, nat_lt, ◌∙◌, max, Bool, true, false, List, [], ◌∷◌, get_or, bit_or, refl, sym, ap, subst, arith, inl, inr, ◌⊎◌}
 use Rattle.std.specs.Prelude.{◌&&◌, not}
 use Rattle.std.specs.Int.{bit_at}
 use Rattle.std.specs.List.{list_all, AllByRecursion}
 use Rattle.std.specs.Cmp.Derive.{both_true}
 use Rattle.std.proofs.Math.Nat.{zero-max, max-zero}
-use Rattle.std.proofs.lemmas.Bool.{and_parts, not-true, eqb-false, ne_eqb, cases_lt}
+use Rattle.std.proofs.lemmas.Bool.{and_parts, not-true, eqb-true, eqb-false, ne_eqb, ltb-true, cases_lt}
 use Rattle.std.proofs.lemmas.Nat.{shl-shr}
 use Rattle.std.proofs.lemmas.Nat.Bits.{bit_at_or, bit_at-lt, bit_at-zero, bit_at_above, bit_at-pow_other, same_from_bits}
 use Rattle.std.proofs.lemmas.List.Elements.{All-from_recursion}
 use Rattle.bsd_abi.specs.declared.signals.BsdSig.{BsdSig}
 use Rattle.bsd_abi.specs.declared.signals.BsdSig.TheVariants.{SIGHUP}
-use Rattle.bsd_abi.specs.BsdSig.{linux_bit, bsd_bit, all_signals}
-use Rattle.bsd_abi.proofs.SignalTable.{each_listed, number-at, all_signals-place}
-use Rattle.signal_map.specs.Sets.{moved_bits, set_in_of, set_out_of, MovesSignals}
+use Rattle.linux_abi.specs.LinuxSig.{linux_number}
+use Rattle.bsd_abi.specs.BsdSig.{linux_signal_number, bsd_bit, all_signals}
+use Rattle.bsd_abi.proofs.SignalTable.{each_listed, each_signal, number-at}
+use Rattle.signal_map.specs.Signals.{signal_out_of}
+use Rattle.signal_map.specs.Sets.{linux_bit_of, moved_bits, set_in_of, set_out_of, MovesSignals}
 
 -- a bit put to its place stands there
 bit_at-put_same : (b k : ℕ) → b < 2 → bit_at (b * 2 ^ k) k ≡ b
@@ -88,20 +90,27 @@ moved_bits-moves from to set distinct =
     }
 
 -- the table passes both tests
-pub set_in-moves : (set : ℕ) → MovesSignals linux_bit bsd_bit set (set_in_of set)
+pub set_in-moves : (set : ℕ) → MovesSignals linux_bit_of bsd_bit set (set_in_of set)
 unfolding set_in_of
-set_in-moves set = moved_bits-moves linux_bit bsd_bit set refl
+set_in-moves set = moved_bits-moves linux_bit_of bsd_bit set refl
 
-pub set_out-moves : (set : ℕ) → MovesSignals bsd_bit linux_bit set (set_out_of set)
+pub set_out-moves : (set : ℕ) → MovesSignals bsd_bit linux_bit_of set (set_out_of set)
 unfolding set_out_of
-set_out-moves set = moved_bits-moves bsd_bit linux_bit set refl
+set_out-moves set = moved_bits-moves bsd_bit linux_bit_of set refl
 
 -- the signal at a place of the table
 abbrev at_place : ℕ → BsdSig
 at_place k = get_or all_signals k SIGHUP
 
-linux_bit-at_place : (k : ℕ) → k < 64 → linux_bit (at_place k) ≡ k
-linux_bit-at_place k within = omega (arith, number-at k SIGHUP within)
+-- a signal has one number on Linux in both tables
+pub linux_number-out : (s : BsdSig) → linux_number (signal_out_of s) ≡ linux_signal_number s
+linux_number-out s = eqb-true _ _ (each_signal (λ t. linux_number (signal_out_of t) == linux_signal_number t) refl s)
+
+linux_bit-at_place : (k : ℕ) → k < 64 → linux_bit_of (at_place k) ≡ k
+linux_bit-at_place k within = omega (arith, number-at k SIGHUP within, linux_number-out (at_place k))
+
+linux_bit_of-lt : (s : BsdSig) → linux_bit_of s < 64
+linux_bit_of-lt s = ltb-true _ _ (each_signal (λ t. nat_lt (linux_bit_of t) 64) refl s)
 
 -- a Linux set leads back to itself
 pub set_out-in : (set : ℕ) → set < 2 ^ 64 → set_out_of (set_in_of set) ≡ set
@@ -111,6 +120,6 @@ set_out-in set small = same_from_bits _ _ (λ k. elim (cases_lt k 64) [
       let Same : ℕ → Type 0 = λ j. bit_at (set_out_of (set_in_of set)) j ≡ bit_at set j in
       subst Same (linux_bit-at_place k within) ((set_out-moves (set_in_of set)).each s ∙ (set_in-moves set).each s)
   | inr above ↦
-      (set_out-moves (set_in_of set)).no_other k (λ s same. (let place = all_signals-place s in absurd (omega (arith, place.0))))
+      (set_out-moves (set_in_of set)).no_other k (λ s same. absurd (omega (arith, linux_bit_of-lt s)))
       ∙ sym (bit_at_above set 64 k small above)
 ])

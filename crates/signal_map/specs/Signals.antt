@@ -1,14 +1,140 @@
--- Signals between Linux and FreeBSD, by the table of signals.
--- Source: FreeBSD's linux(4).
-use Rattle.std.specs.Prelude.{ℕ, ◌==◌, find, unwrap_or}
+-- Signals between Linux and FreeBSD: those of the same name.
+-- Source: signal(7) of Linux and signal(3) of FreeBSD, translated as FreeBSD's linux(4) does it.
+use Rattle.linux_abi.specs.declared.signals.LinuxSig.{LinuxSig}
+use Rattle.linux_abi.specs.declared.signals.LinuxSig.TheVariants as linux
 use Rattle.bsd_abi.specs.declared.signals.BsdSig.{BsdSig}
-use Rattle.bsd_abi.specs.declared.signals.BsdSig.TheVariants.{SIGHUP}
-use Rattle.bsd_abi.specs.BsdSig.{linux_signal_number, all_signals}
+use Rattle.bsd_abi.specs.declared.signals.BsdSig.TheVariants as bsd
 
--- the Linux signal of a FreeBSD signal: its number on Linux
-abbrev pub signal_out_of : BsdSig → ℕ
-signal_out_of s = linux_signal_number s
+-- the FreeBSD signal of a Linux signal
+abbrev pub signal_in_of : LinuxSig → BsdSig
+signal_in_of linux.SIGHUP = bsd.SIGHUP
+signal_in_of linux.SIGINT = bsd.SIGINT
+signal_in_of linux.SIGQUIT = bsd.SIGQUIT
+signal_in_of linux.SIGILL = bsd.SIGILL
+signal_in_of linux.SIGTRAP = bsd.SIGTRAP
+signal_in_of linux.SIGABRT = bsd.SIGABRT
+signal_in_of linux.SIGBUS = bsd.SIGBUS
+signal_in_of linux.SIGFPE = bsd.SIGFPE
+signal_in_of linux.SIGKILL = bsd.SIGKILL
+signal_in_of linux.SIGUSR1 = bsd.SIGUSR1
+signal_in_of linux.SIGSEGV = bsd.SIGSEGV
+signal_in_of linux.SIGUSR2 = bsd.SIGUSR2
+signal_in_of linux.SIGPIPE = bsd.SIGPIPE
+signal_in_of linux.SIGALRM = bsd.SIGALRM
+signal_in_of linux.SIGTERM = bsd.SIGTERM
+signal_in_of linux.SIGSTKFLT = bsd.SIGSTKFLT
+signal_in_of linux.SIGCHLD = bsd.SIGCHLD
+signal_in_of linux.SIGCONT = bsd.SIGCONT
+signal_in_of linux.SIGSTOP = bsd.SIGSTOP
+signal_in_of linux.SIGTSTP = bsd.SIGTSTP
+signal_in_of linux.SIGTTIN = bsd.SIGTTIN
+signal_in_of linux.SIGTTOU = bsd.SIGTTOU
+signal_in_of linux.SIGURG = bsd.SIGURG
+signal_in_of linux.SIGXCPU = bsd.SIGXCPU
+signal_in_of linux.SIGXFSZ = bsd.SIGXFSZ
+signal_in_of linux.SIGVTALRM = bsd.SIGVTALRM
+signal_in_of linux.SIGPROF = bsd.SIGPROF
+signal_in_of linux.SIGWINCH = bsd.SIGWINCH
+signal_in_of linux.SIGIO = bsd.SIGIO
+signal_in_of linux.SIGPWR = bsd.SIGPWR
+signal_in_of linux.SIGSYS = bsd.SIGSYS
+signal_in_of linux.SIGRT0 = bsd.SIGRT0
+signal_in_of linux.SIGRT1 = bsd.SIGRT1
+signal_in_of linux.SIGRT2 = bsd.SIGRT2
+signal_in_of linux.SIGRT3 = bsd.SIGRT3
+signal_in_of linux.SIGRT4 = bsd.SIGRT4
+signal_in_of linux.SIGRT5 = bsd.SIGRT5
+signal_in_of linux.SIGRT6 = bsd.SIGRT6
+signal_in_of linux.SIGRT7 = bsd.SIGRT7
+signal_in_of linux.SIGRT8 = bsd.SIGRT8
+signal_in_of linux.SIGRT9 = bsd.SIGRT9
+signal_in_of linux.SIGRT10 = bsd.SIGRT10
+signal_in_of linux.SIGRT11 = bsd.SIGRT11
+signal_in_of linux.SIGRT12 = bsd.SIGRT12
+signal_in_of linux.SIGRT13 = bsd.SIGRT13
+signal_in_of linux.SIGRT14 = bsd.SIGRT14
+signal_in_of linux.SIGRT15 = bsd.SIGRT15
+signal_in_of linux.SIGRT16 = bsd.SIGRT16
+signal_in_of linux.SIGRT17 = bsd.SIGRT17
+signal_in_of linux.SIGRT18 = bsd.SIGRT18
+signal_in_of linux.SIGRT19 = bsd.SIGRT19
+signal_in_of linux.SIGRT20 = bsd.SIGRT20
+signal_in_of linux.SIGRT21 = bsd.SIGRT21
+signal_in_of linux.SIGRT22 = bsd.SIGRT22
+signal_in_of linux.SIGRT23 = bsd.SIGRT23
+signal_in_of linux.SIGRT24 = bsd.SIGRT24
+signal_in_of linux.SIGRT25 = bsd.SIGRT25
+signal_in_of linux.SIGRT26 = bsd.SIGRT26
+signal_in_of linux.SIGRT27 = bsd.SIGRT27
+signal_in_of linux.SIGRT28 = bsd.SIGRT28
+signal_in_of linux.SIGRT29 = bsd.SIGRT29
+signal_in_of linux.SIGRT30 = bsd.SIGRT30
+signal_in_of linux.SIGRT31 = bsd.SIGRT31
+signal_in_of linux.SIGRT32 = bsd.SIGRT32
 
--- the FreeBSD signal of the Linux signal n: the one whose number on Linux is n. (A number that no signal has is no LinuxSig.)
-unfoldable pub signal_in_of : ℕ → BsdSig
-signal_in_of n = unwrap_or (find (λ s. linux_signal_number s == n) all_signals) SIGHUP
+-- the Linux signal of a FreeBSD signal
+abbrev pub signal_out_of : BsdSig → LinuxSig
+signal_out_of bsd.SIGHUP = linux.SIGHUP
+signal_out_of bsd.SIGINT = linux.SIGINT
+signal_out_of bsd.SIGQUIT = linux.SIGQUIT
+signal_out_of bsd.SIGILL = linux.SIGILL
+signal_out_of bsd.SIGTRAP = linux.SIGTRAP
+signal_out_of bsd.SIGABRT = linux.SIGABRT
+signal_out_of bsd.SIGBUS = linux.SIGBUS
+signal_out_of bsd.SIGFPE = linux.SIGFPE
+signal_out_of bsd.SIGKILL = linux.SIGKILL
+signal_out_of bsd.SIGUSR1 = linux.SIGUSR1
+signal_out_of bsd.SIGSEGV = linux.SIGSEGV
+signal_out_of bsd.SIGUSR2 = linux.SIGUSR2
+signal_out_of bsd.SIGPIPE = linux.SIGPIPE
+signal_out_of bsd.SIGALRM = linux.SIGALRM
+signal_out_of bsd.SIGTERM = linux.SIGTERM
+signal_out_of bsd.SIGSTKFLT = linux.SIGSTKFLT
+signal_out_of bsd.SIGCHLD = linux.SIGCHLD
+signal_out_of bsd.SIGCONT = linux.SIGCONT
+signal_out_of bsd.SIGSTOP = linux.SIGSTOP
+signal_out_of bsd.SIGTSTP = linux.SIGTSTP
+signal_out_of bsd.SIGTTIN = linux.SIGTTIN
+signal_out_of bsd.SIGTTOU = linux.SIGTTOU
+signal_out_of bsd.SIGURG = linux.SIGURG
+signal_out_of bsd.SIGXCPU = linux.SIGXCPU
+signal_out_of bsd.SIGXFSZ = linux.SIGXFSZ
+signal_out_of bsd.SIGVTALRM = linux.SIGVTALRM
+signal_out_of bsd.SIGPROF = linux.SIGPROF
+signal_out_of bsd.SIGWINCH = linux.SIGWINCH
+signal_out_of bsd.SIGIO = linux.SIGIO
+signal_out_of bsd.SIGPWR = linux.SIGPWR
+signal_out_of bsd.SIGSYS = linux.SIGSYS
+signal_out_of bsd.SIGRT0 = linux.SIGRT0
+signal_out_of bsd.SIGRT1 = linux.SIGRT1
+signal_out_of bsd.SIGRT2 = linux.SIGRT2
+signal_out_of bsd.SIGRT3 = linux.SIGRT3
+signal_out_of bsd.SIGRT4 = linux.SIGRT4
+signal_out_of bsd.SIGRT5 = linux.SIGRT5
+signal_out_of bsd.SIGRT6 = linux.SIGRT6
+signal_out_of bsd.SIGRT7 = linux.SIGRT7
+signal_out_of bsd.SIGRT8 = linux.SIGRT8
+signal_out_of bsd.SIGRT9 = linux.SIGRT9
+signal_out_of bsd.SIGRT10 = linux.SIGRT10
+signal_out_of bsd.SIGRT11 = linux.SIGRT11
+signal_out_of bsd.SIGRT12 = linux.SIGRT12
+signal_out_of bsd.SIGRT13 = linux.SIGRT13
+signal_out_of bsd.SIGRT14 = linux.SIGRT14
+signal_out_of bsd.SIGRT15 = linux.SIGRT15
+signal_out_of bsd.SIGRT16 = linux.SIGRT16
+signal_out_of bsd.SIGRT17 = linux.SIGRT17
+signal_out_of bsd.SIGRT18 = linux.SIGRT18
+signal_out_of bsd.SIGRT19 = linux.SIGRT19
+signal_out_of bsd.SIGRT20 = linux.SIGRT20
+signal_out_of bsd.SIGRT21 = linux.SIGRT21
+signal_out_of bsd.SIGRT22 = linux.SIGRT22
+signal_out_of bsd.SIGRT23 = linux.SIGRT23
+signal_out_of bsd.SIGRT24 = linux.SIGRT24
+signal_out_of bsd.SIGRT25 = linux.SIGRT25
+signal_out_of bsd.SIGRT26 = linux.SIGRT26
+signal_out_of bsd.SIGRT27 = linux.SIGRT27
+signal_out_of bsd.SIGRT28 = linux.SIGRT28
+signal_out_of bsd.SIGRT29 = linux.SIGRT29
+signal_out_of bsd.SIGRT30 = linux.SIGRT30
+signal_out_of bsd.SIGRT31 = linux.SIGRT31
+signal_out_of bsd.SIGRT32 = linux.SIGRT32
