@@ -1,5 +1,5 @@
 -- What a table makes of flags, from one test of the whole table: no two of its rows give a bit in common.
-use Rattle.std.proofs.Common.{◌≡◌, ℕ, min, ◌==◌, ◌∙◌, if◌then◌else◌, Bool, true, false, List, [], ◌∷◌, bit_and, bit_or, refl, sym, ap, subst, arith}
+use Rattle.std.proofs.Common.{◌≡◌, ℕ, min, ◌==◌, ◌∙◌, if◌then◌else◌, Bool, true, false, List, [], ◌∷◌, bit_and, bit_or, refl, sym, ap, arith}
 use Rattle.std.specs.Prelude.{◌&&◌}
 use Rattle.std.specs.List.{list_all, AllByRecursion}
 use Rattle.std.specs.Int.Bits.{and_zero_l, and_self, or_zero_r}
@@ -9,7 +9,7 @@ use Rattle.std.specs.Int.{bit_at}
 use Rattle.std.proofs.lemmas.Nat.Bits.{bit_at_and, bit_at_or, same_from_bits}
 use Rattle.std.proofs.lemmas.List.Elements.{All-from_recursion}
 use Rattle.bsd_abi.proofs.Bits.{or_assoc}
-use Rattle.abi_map.specs.Flags.{bit_of, moved_by, given_by, IsMovedBy}
+use Rattle.abi_map.specs.Flags.{open_flag_table, map_flag_table, turned, bit_of, moved_by, given_by, open_flags_in_of, open_flags_out_of, map_flags_in_of, IsMovedBy}
 
 -- what lies within masks lies within them joined
 within-joined : (a p b q : ℕ) → bit_and a p ≡ a → bit_and b q ≡ b → bit_and (bit_or a b) (bit_or p q) ≡ bit_or a b
@@ -91,6 +91,15 @@ four_rows p q r s flags a b c d p_is q_is r_is s_is =
     let joined : bit_or (bit_or (bit_or a b) c) d ≡ bit_or a (bit_or b (bit_or c (bit_or d 0))) = simp (or_assoc, or_zero_r) in
     cc
 
--- so they are moved by it
-pub four_rows-move : (p q r s : ℕ × ℕ) (flags new : ℕ) → new ≡ moved_by (p ∷ q ∷ r ∷ s ∷ []) flags → is_apart (p ∷ q ∷ r ∷ s ∷ []) ≡ true → IsMovedBy (p ∷ q ∷ r ∷ s ∷ []) flags new
-four_rows-move p q r s flags new is apart = subst (IsMovedBy (p ∷ q ∷ r ∷ s ∷ []) flags) (sym is) (moved_by-moves _ flags apart)
+-- the three tables pass the test
+pub open_flags_in-moves : (flags : ℕ) → IsMovedBy open_flag_table flags (open_flags_in_of flags)
+unfolding open_flags_in_of
+open_flags_in-moves flags = moved_by-moves open_flag_table flags refl
+
+pub open_flags_out-moves : (flags : ℕ) → IsMovedBy (turned open_flag_table) flags (open_flags_out_of flags)
+unfolding open_flags_out_of
+open_flags_out-moves flags = moved_by-moves (turned open_flag_table) flags refl
+
+pub map_flags_in-moves : (flags : ℕ) → IsMovedBy map_flag_table flags (map_flags_in_of flags)
+unfolding map_flags_in_of
+map_flags_in-moves flags = moved_by-moves map_flag_table flags refl

@@ -1,12 +1,12 @@
 -- What the two maps of sets do to each bit, from tests of the whole table of signals.
-use Rattle.std.proofs.Common.{◌≡◌, ◌≢◌, ℕ, zero, suc, ◌+◌, ◌*◌, ◌^◌, ◌<◌, ◌≤◌, ◌==◌, nat_lt, ◌∙◌, max, Bool, true, false, List, [], ◌∷◌, get_or, bit_or, refl, sym, ap, subst, arith, inl, inr, ◌⊎◌}
+use Rattle.std.proofs.Common.{◌≡◌, ◌≢◌, ℕ, zero, suc, ◌*◌, ◌^◌, ◌<◌, ◌==◌, nat_lt, ◌∙◌, max, Bool, true, List, [], ◌∷◌, get_or, bit_or, refl, sym, ap, subst, arith, inl, inr}
 use Rattle.std.specs.Prelude.{◌&&◌, not}
 use Rattle.std.specs.Int.{bit_at}
 use Rattle.std.specs.List.{list_all, AllByRecursion}
 use Rattle.std.specs.Cmp.Derive.{both_true}
 use Rattle.std.proofs.Math.Nat.{zero-max, max-zero}
 use Rattle.std.proofs.lemmas.Bool.{and_parts, not-true, eqb-true, eqb-false, ne_eqb, ltb-true, cases_lt}
-use Rattle.std.proofs.lemmas.Nat.{shl-shr}
+use Rattle.std.proofs.lemmas.Nat.{shl-shr, or_lt, pow_pos, pow_below}
 use Rattle.std.proofs.lemmas.Nat.Bits.{bit_at_or, bit_at-lt, bit_at-zero, bit_at_above, bit_at-pow_other, same_from_bits}
 use Rattle.std.proofs.lemmas.List.Elements.{All-from_recursion}
 use Rattle.bsd_abi.specs.declared.signals.BsdSig.{BsdSig}
@@ -98,19 +98,36 @@ pub set_out-moves : (set : ℕ) → MovesSignals bsd_bit linux_bit_of set (set_o
 unfolding set_out_of
 set_out-moves set = moved_bits-moves bsd_bit linux_bit_of set refl
 
--- the signal at a place of the table
-abbrev at_place : ℕ → BsdSig
+-- the signal at a place of the table of signals
+abbrev pub at_place : ℕ → BsdSig
 at_place k = get_or all_signals k SIGHUP
 
 -- a signal has one number on Linux in both tables
 pub linux_number-out : (s : BsdSig) → linux_number (signal_out_of s) ≡ linux_signal_number s
 linux_number-out s = eqb-true _ _ (each_signal (λ t. linux_number (signal_out_of t) == linux_signal_number t) refl s)
 
-linux_bit-at_place : (k : ℕ) → k < 64 → linux_bit_of (at_place k) ≡ k
+pub linux_bit-at_place : (k : ℕ) → k < 64 → linux_bit_of (at_place k) ≡ k
 linux_bit-at_place k within = omega (arith, number-at k SIGHUP within, linux_number-out (at_place k))
 
-linux_bit_of-lt : (s : BsdSig) → linux_bit_of s < 64
+pub linux_bit_of-lt : (s : BsdSig) → linux_bit_of s < 64
 linux_bit_of-lt s = ltb-true _ _ (each_signal (λ t. nat_lt (linux_bit_of t) 64) refl s)
+
+pub bsd_bit-lt : (s : BsdSig) → bsd_bit s < 128
+bsd_bit-lt s = ltb-true _ _ (each_signal (λ t. nat_lt (bsd_bit t) 128) refl s)
+
+put-lt : (b k width : ℕ) → b < 2 → k < width → b * 2 ^ k < 2 ^ width
+put-lt zero k width small below = omega (arith, pow_pos width)
+put-lt (suc zero) k width small below = omega (arith, pow_below k width below)
+put-lt (suc (suc b)) k width small below = absurd (omega arith)
+
+-- a set lies below the power of two that all its bits lie below
+moved_bits-lt : (from to : BsdSig → ℕ) (width : ℕ) → ((s : BsdSig) → to s < width) → (signals : List BsdSig) (set : ℕ) → moved_bits from to signals set < 2 ^ width
+moved_bits-lt from to width below [] set = pow_pos width
+moved_bits-lt from to width below (s ∷ signals) set = or_lt width _ _ (put-lt _ _ width (bit_at-lt set (from s)) (below s)) (moved_bits-lt from to width below signals set)
+
+pub set_out-lt : (set : ℕ) → set_out_of set < 2 ^ 64
+unfolding set_out_of
+set_out-lt set = moved_bits-lt bsd_bit linux_bit_of 64 linux_bit_of-lt all_signals set
 
 -- a Linux set leads back to itself
 pub set_out-in : (set : ℕ) → set < 2 ^ 64 → set_out_of (set_in_of set) ≡ set

@@ -1,7 +1,7 @@
 -- The four masks are what the table's rows make.
-use Rattle.std.proofs.Common.{refl}
-use Rattle.abi_map.specs.Flags.{open_flags_in_of}
-use Rattle.abi_map.proofs.FlagTables.{four_rows, four_rows-move}
+use Rattle.std.proofs.Common.{sym, subst}
+use Rattle.abi_map.specs.Flags.{IsMovedBy, open_flag_table, open_flags_in_of}
+use Rattle.abi_map.proofs.FlagTables.{four_rows, open_flags_in-moves}
 use Rattle.abi_map.proofs.flags.open_flags_in.Goals as goal
 
 pub returns-clause-value : goal.returns-clause-value
@@ -11,6 +11,5 @@ returns-clause-value c =
     c.moved.ensures c.moved-2.ensures c.moved-3.ensures c.moved-4.ensures
 
 pub returns-clause-table : goal.returns-clause-table
-unfolding open_flags_in_of
 returns-clause-table c =
-    four_rows-move (1, 1) (2, 2) (0x800, 0x4) (0x80000, 0x100000) c.args.flags _ (returns-clause-value c) refl
+    subst (IsMovedBy open_flag_table c.args.flags) (sym (returns-clause-value c)) (open_flags_in-moves c.args.flags)

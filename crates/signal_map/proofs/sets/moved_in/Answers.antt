@@ -13,14 +13,14 @@ loop-signal-preserved c =
     let made = c.loop-signal.bsd in
     let mask_is = c.bit.ensures ∙ ap (λ s. 2 ^ linux_bit s) c.signal_out.ensures.value in
     elim c.if-linux-bit-ne0.branch [
-      then-linux-bit-ne0 w ↦
-        turn linux_bit_of bsd_bit _ _ _ _ made _ c.loop-signal-test.true
-        (w.bsd-is ∙ ap (bit_or made) (put_found _ _ _ _ _ mask_is w.if-linux-bit-ne0.true w.bit-bsd.ensures))
-        c.loop-signal.invariant
-    | else-linux-bit-ne0 w ↦
-        turn linux_bit_of bsd_bit _ _ _ _ made _ c.loop-signal-test.true
-        (w.bsd-is ∙ sym (ap (bit_or made) (put_lacking _ _ _ _ mask_is w.if-linux-bit-ne0.false) ∙ or_zero_r made))
-        c.loop-signal.invariant
+      | then-linux-bit-ne0 w ↦
+          turn linux_bit_of bsd_bit _ _ _ _ made _ c.loop-signal-test.true
+          (w.bsd-is ∙ ap (bit_or made) (put_found _ _ _ _ _ mask_is w.if-linux-bit-ne0.true w.bit-bsd.ensures))
+          c.loop-signal.invariant
+      | else-linux-bit-ne0 w ↦
+          turn linux_bit_of bsd_bit _ _ _ _ made _ c.loop-signal-test.true
+          (w.bsd-is ∙ sym (ap (bit_or made) (put_lacking _ _ _ _ mask_is w.if-linux-bit-ne0.false) ∙ or_zero_r made))
+          c.loop-signal.invariant
     ]
 
 pub returns : goal.returns
