@@ -2,22 +2,14 @@
 -- Source: open(2), fcntl(2) and mmap(2) of Linux and of FreeBSD.
 use Rattle.std.specs.Prelude.{◌≡◌, ℕ, ◌==◌, if◌then◌else◌, List, [], ◌∷◌, map, bit_and, bit_or}
 use Rattle.std.specs.List.{All}
-use Rattle.linux_abi.specs.declared.files.TheConstants as linux_files
-use Rattle.linux_abi.specs.declared.memory.TheConstants as linux_memory
-use Rattle.bsd_abi.specs.declared.files.TheConstants as bsd_files
-use Rattle.bsd_abi.specs.declared.memory.TheConstants as bsd_memory
 
--- the flags of an open file, Linux's mask and FreeBSD's: 1 and 2 are the same, 0x800 is 0x4, 0x80000 is 0x100000
+-- the flags of an open file, Linux's mask and FreeBSD's: O_WRONLY, O_RDWR, O_NONBLOCK, O_CLOEXEC
 abbrev pub open_flag_table : List (ℕ × ℕ)
-open_flag_table =
-    (linux_files.O_WRONLY, bsd_files.O_WRONLY) ∷ (linux_files.O_RDWR, bsd_files.O_RDWR) ∷
-    (linux_files.O_NONBLOCK, bsd_files.O_NONBLOCK) ∷ (linux_files.O_CLOEXEC, bsd_files.O_CLOEXEC) ∷ []
+open_flag_table = (1, 1) ∷ (2, 2) ∷ (0x800, 0x4) ∷ (0x80000, 0x100000) ∷ []
 
--- the flags of a mapping, Linux's mask and FreeBSD's: 1, 2 and 0x10 are the same, 0x20 is 0x1000
+-- the flags of a mapping, Linux's mask and FreeBSD's: MAP_SHARED, MAP_PRIVATE, MAP_FIXED, and MAP_ANONYMOUS, on FreeBSD MAP_ANON
 abbrev pub map_flag_table : List (ℕ × ℕ)
-map_flag_table =
-    (linux_memory.MAP_SHARED, bsd_memory.MAP_SHARED) ∷ (linux_memory.MAP_PRIVATE, bsd_memory.MAP_PRIVATE) ∷
-    (linux_memory.MAP_FIXED, bsd_memory.MAP_FIXED) ∷ (linux_memory.MAP_ANONYMOUS, bsd_memory.MAP_ANON) ∷ []
+map_flag_table = (1, 1) ∷ (2, 2) ∷ (0x10, 0x10) ∷ (0x20, 0x1000) ∷ []
 
 -- the same table, read from FreeBSD to Linux
 abbrev pub turned : List (ℕ × ℕ) → List (ℕ × ℕ)

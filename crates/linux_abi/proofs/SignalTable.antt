@@ -6,10 +6,10 @@ use Rattle.std.proofs.lemmas.List.Elements.{All-contains}
 use Rattle.std.proofs.lemmas.List.Sums.{AllPass-from_list_all}
 use Rattle.linux_abi.specs.declared.signals.LinuxSig.{LinuxSig}
 use Rattle.linux_abi.specs.declared.signals.LinuxSig.TheVariants as signal
-use Rattle.linux_abi.specs.LinuxSig.{linux_number, linux_bit, linux_signals, linux_signal_of}
+use Rattle.linux_abi.specs.LinuxSig.{signal_number, linux_bit, linux_signals, linux_signal_of}
 
 -- each signal is found by its number
-pub linux_signal_of-number : (s : LinuxSig) → linux_signal_of (linux_number s) ≡ Some s
+pub linux_signal_of-number : (s : LinuxSig) → linux_signal_of (signal_number s) ≡ Some s
 unfolding linux_signal_of
 linux_signal_of-number signal.SIGHUP = refl
 linux_signal_of-number signal.SIGINT = refl
@@ -76,7 +76,7 @@ linux_signal_of-number signal.SIGRT30 = refl
 linux_signal_of-number signal.SIGRT31 = refl
 linux_signal_of-number signal.SIGRT32 = refl
 
-pub linux_signal_of-is : (s : LinuxSig) (n : ℕ) → n ≡ linux_number s → linux_signal_of n ≡ Some s
+pub linux_signal_of-is : (s : LinuxSig) (n : ℕ) → n ≡ signal_number s → linux_signal_of n ≡ Some s
 linux_signal_of-is s n is = ap linux_signal_of is ∙ linux_signal_of-number s
 
 -- each signal stands at the place of its bit

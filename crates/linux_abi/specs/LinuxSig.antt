@@ -6,71 +6,71 @@ use Rattle.linux_abi.specs.declared.signals.LinuxSig.{LinuxSig}
 use Rattle.linux_abi.specs.declared.signals.LinuxSig.TheVariants as signal
 
 -- the number of a signal
-abbrev pub linux_number : LinuxSig → ℕ
-linux_number signal.SIGHUP = 1
-linux_number signal.SIGINT = 2
-linux_number signal.SIGQUIT = 3
-linux_number signal.SIGILL = 4
-linux_number signal.SIGTRAP = 5
-linux_number signal.SIGABRT = 6
-linux_number signal.SIGBUS = 7
-linux_number signal.SIGFPE = 8
-linux_number signal.SIGKILL = 9
-linux_number signal.SIGUSR1 = 10
-linux_number signal.SIGSEGV = 11
-linux_number signal.SIGUSR2 = 12
-linux_number signal.SIGPIPE = 13
-linux_number signal.SIGALRM = 14
-linux_number signal.SIGTERM = 15
-linux_number signal.SIGSTKFLT = 16
-linux_number signal.SIGCHLD = 17
-linux_number signal.SIGCONT = 18
-linux_number signal.SIGSTOP = 19
-linux_number signal.SIGTSTP = 20
-linux_number signal.SIGTTIN = 21
-linux_number signal.SIGTTOU = 22
-linux_number signal.SIGURG = 23
-linux_number signal.SIGXCPU = 24
-linux_number signal.SIGXFSZ = 25
-linux_number signal.SIGVTALRM = 26
-linux_number signal.SIGPROF = 27
-linux_number signal.SIGWINCH = 28
-linux_number signal.SIGIO = 29
-linux_number signal.SIGPWR = 30
-linux_number signal.SIGSYS = 31
-linux_number signal.SIGRT0 = 32
-linux_number signal.SIGRT1 = 33
-linux_number signal.SIGRT2 = 34
-linux_number signal.SIGRT3 = 35
-linux_number signal.SIGRT4 = 36
-linux_number signal.SIGRT5 = 37
-linux_number signal.SIGRT6 = 38
-linux_number signal.SIGRT7 = 39
-linux_number signal.SIGRT8 = 40
-linux_number signal.SIGRT9 = 41
-linux_number signal.SIGRT10 = 42
-linux_number signal.SIGRT11 = 43
-linux_number signal.SIGRT12 = 44
-linux_number signal.SIGRT13 = 45
-linux_number signal.SIGRT14 = 46
-linux_number signal.SIGRT15 = 47
-linux_number signal.SIGRT16 = 48
-linux_number signal.SIGRT17 = 49
-linux_number signal.SIGRT18 = 50
-linux_number signal.SIGRT19 = 51
-linux_number signal.SIGRT20 = 52
-linux_number signal.SIGRT21 = 53
-linux_number signal.SIGRT22 = 54
-linux_number signal.SIGRT23 = 55
-linux_number signal.SIGRT24 = 56
-linux_number signal.SIGRT25 = 57
-linux_number signal.SIGRT26 = 58
-linux_number signal.SIGRT27 = 59
-linux_number signal.SIGRT28 = 60
-linux_number signal.SIGRT29 = 61
-linux_number signal.SIGRT30 = 62
-linux_number signal.SIGRT31 = 63
-linux_number signal.SIGRT32 = 64
+abbrev pub signal_number : LinuxSig → ℕ
+signal_number signal.SIGHUP = 1
+signal_number signal.SIGINT = 2
+signal_number signal.SIGQUIT = 3
+signal_number signal.SIGILL = 4
+signal_number signal.SIGTRAP = 5
+signal_number signal.SIGABRT = 6
+signal_number signal.SIGBUS = 7
+signal_number signal.SIGFPE = 8
+signal_number signal.SIGKILL = 9
+signal_number signal.SIGUSR1 = 10
+signal_number signal.SIGSEGV = 11
+signal_number signal.SIGUSR2 = 12
+signal_number signal.SIGPIPE = 13
+signal_number signal.SIGALRM = 14
+signal_number signal.SIGTERM = 15
+signal_number signal.SIGSTKFLT = 16
+signal_number signal.SIGCHLD = 17
+signal_number signal.SIGCONT = 18
+signal_number signal.SIGSTOP = 19
+signal_number signal.SIGTSTP = 20
+signal_number signal.SIGTTIN = 21
+signal_number signal.SIGTTOU = 22
+signal_number signal.SIGURG = 23
+signal_number signal.SIGXCPU = 24
+signal_number signal.SIGXFSZ = 25
+signal_number signal.SIGVTALRM = 26
+signal_number signal.SIGPROF = 27
+signal_number signal.SIGWINCH = 28
+signal_number signal.SIGIO = 29
+signal_number signal.SIGPWR = 30
+signal_number signal.SIGSYS = 31
+signal_number signal.SIGRT0 = 32
+signal_number signal.SIGRT1 = 33
+signal_number signal.SIGRT2 = 34
+signal_number signal.SIGRT3 = 35
+signal_number signal.SIGRT4 = 36
+signal_number signal.SIGRT5 = 37
+signal_number signal.SIGRT6 = 38
+signal_number signal.SIGRT7 = 39
+signal_number signal.SIGRT8 = 40
+signal_number signal.SIGRT9 = 41
+signal_number signal.SIGRT10 = 42
+signal_number signal.SIGRT11 = 43
+signal_number signal.SIGRT12 = 44
+signal_number signal.SIGRT13 = 45
+signal_number signal.SIGRT14 = 46
+signal_number signal.SIGRT15 = 47
+signal_number signal.SIGRT16 = 48
+signal_number signal.SIGRT17 = 49
+signal_number signal.SIGRT18 = 50
+signal_number signal.SIGRT19 = 51
+signal_number signal.SIGRT20 = 52
+signal_number signal.SIGRT21 = 53
+signal_number signal.SIGRT22 = 54
+signal_number signal.SIGRT23 = 55
+signal_number signal.SIGRT24 = 56
+signal_number signal.SIGRT25 = 57
+signal_number signal.SIGRT26 = 58
+signal_number signal.SIGRT27 = 59
+signal_number signal.SIGRT28 = 60
+signal_number signal.SIGRT29 = 61
+signal_number signal.SIGRT30 = 62
+signal_number signal.SIGRT31 = 63
+signal_number signal.SIGRT32 = 64
 
 -- all signals, by rising number
 abbrev pub linux_signals : List LinuxSig
@@ -91,15 +91,15 @@ linux_signals =
 
 -- the signal of a number, if one has it
 unfoldable pub linux_signal_of : ℕ → Option LinuxSig
-linux_signal_of n = find (λ s. linux_number s == n) linux_signals
+linux_signal_of n = find (λ s. signal_number s == n) linux_signals
 
 -- the bit of a signal in a set
 abbrev pub linux_bit : LinuxSig → ℕ
-linux_bit s = linux_number s - 1
+linux_bit s = signal_number s - 1
 
--- whether it is a real-time signal
+-- whether it is a real-time signal, from SIGRT0 on
 abbrev pub is_real_time : LinuxSig → Bool
-is_real_time s = nat_le 32 (linux_number s)
+is_real_time s = nat_le (signal_number signal.SIGRT0) (signal_number s)
 
 -- whether the default action is to ignore or to discard it
 abbrev pub is_dropped_by_default : LinuxSig → Bool

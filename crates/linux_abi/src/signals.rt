@@ -1,6 +1,6 @@
 //! Signals by number, and flags and choices of the signal calls.
 ghost use Rattle.std.specs.Prelude.{◌≡◌, ◌^◌, ◌<◌, ◌≤◌, ◌⊎◌, ◌↔◌, Some, IfSome, IsNone};
-ghost use Rattle.linux_abi.specs.LinuxSig.{linux_number, linux_bit, linux_signal_of, is_real_time, is_dropped_by_default};
+ghost use Rattle.linux_abi.specs.LinuxSig.{signal_number, linux_bit, linux_signal_of, is_real_time, is_dropped_by_default};
 ghost use Rattle.linux_abi.specs.MaskChange.{mask_change_number, mask_change_of};
 
 /// The signals that are never blocked, as a set: SIGKILL, which is 9, and SIGSTOP, which is 19 (sigprocmask(2)).
@@ -187,7 +187,7 @@ impl LinuxSig {
     #[tactic(auto, unfolding(crate::specs::LinuxSig::linux_signal_of))]
     pub fn new(n: u64) -> Option<LinuxSig>
         ensures value { result ≡ linux_signal_of n }
-        ensures some { IfSome result (λ signal. linux_number signal ≡ n) }
+        ensures some { IfSome result (λ signal. signal_number signal ≡ n) }
         ensures none { IsNone result ↔ ((n ≡ 0) ⊎ (64 < n)) }
     {
         match n {
@@ -262,7 +262,7 @@ impl LinuxSig {
     /// Linux's number of the signal, from 1 to 64.
     #[tactic(auto, unfolding(crate::specs::LinuxSig::linux_signal_of))]
     pub fn number(self) -> u8
-        ensures value { result ≡ linux_number self }
+        ensures value { result ≡ signal_number self }
         ensures range { (1 ≤ result) × (result ≤ 64) }
         ensures back { linux_signal_of result ≡ Some self }
     {

@@ -11,7 +11,7 @@ use Rattle.std.proofs.lemmas.Nat.Bits.{bit_at_or, bit_at-lt, bit_at-zero, bit_at
 use Rattle.std.proofs.lemmas.List.Elements.{All-from_recursion}
 use Rattle.bsd_abi.specs.declared.signals.BsdSig.{BsdSig}
 use Rattle.bsd_abi.specs.declared.signals.BsdSig.TheVariants.{SIGHUP}
-use Rattle.linux_abi.specs.LinuxSig.{linux_number}
+use Rattle.linux_abi.specs.LinuxSig.{signal_number}
 use Rattle.bsd_abi.specs.BsdSig.{linux_signal_number, bsd_bit, all_signals}
 use Rattle.bsd_abi.proofs.SignalTable.{each_listed, each_signal, number-at}
 use Rattle.signal_map.specs.Signals.{signal_out_of}
@@ -103,11 +103,11 @@ abbrev pub at_place : ℕ → BsdSig
 at_place k = get_or all_signals k SIGHUP
 
 -- a signal has one number on Linux in both tables
-pub linux_number-out : (s : BsdSig) → linux_number (signal_out_of s) ≡ linux_signal_number s
-linux_number-out s = eqb-true _ _ (each_signal (λ t. linux_number (signal_out_of t) == linux_signal_number t) refl s)
+pub signal_number-out : (s : BsdSig) → signal_number (signal_out_of s) ≡ linux_signal_number s
+signal_number-out s = eqb-true _ _ (each_signal (λ t. signal_number (signal_out_of t) == linux_signal_number t) refl s)
 
 pub linux_bit-at_place : (k : ℕ) → k < 64 → linux_bit_of (at_place k) ≡ k
-linux_bit-at_place k within = omega (arith, number-at k SIGHUP within, linux_number-out (at_place k))
+linux_bit-at_place k within = omega (arith, number-at k SIGHUP within, signal_number-out (at_place k))
 
 pub linux_bit_of-lt : (s : BsdSig) → linux_bit_of s < 64
 linux_bit_of-lt s = ltb-true _ _ (each_signal (λ t. nat_lt (linux_bit_of t) 64) refl s)

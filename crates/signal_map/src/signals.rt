@@ -1,6 +1,6 @@
 //! Single signals.
 ghost use Rattle.std.specs.Prelude.{◌≡◌};
-ghost use Rattle.linux_abi.specs.LinuxSig.{linux_number};
+ghost use Rattle.linux_abi.specs.LinuxSig.{signal_number};
 ghost use Rattle.linux_abi.specs.LinuxSig as linux;
 ghost use Rattle.bsd_abi.specs.BsdSig.{linux_signal_number};
 ghost use Rattle.bsd_abi.specs.BsdSig as bsd;
@@ -14,7 +14,7 @@ pub fn signal_in(s: LinuxSig) -> BsdSig
     ensures value { result ≡ signal_in_of s }
     ensures back { signal_out_of result ≡ s }
     // The table of signals has this signal's number on Linux beside the answer's number on FreeBSD.
-    ensures numbers { linux_signal_number result ≡ linux_number s }
+    ensures numbers { linux_signal_number result ≡ signal_number s }
 {
     match s {
         LinuxSig::SIGHUP => BsdSig::SIGHUP,
@@ -89,7 +89,7 @@ pub fn signal_out(s: BsdSig) -> LinuxSig
     ensures value { result ≡ signal_out_of s }
     ensures back { signal_in_of result ≡ s }
     // The table of signals has the answer's number on Linux beside this signal's number on FreeBSD.
-    ensures numbers { linux_number result ≡ linux_signal_number s }
+    ensures numbers { signal_number result ≡ linux_signal_number s }
 
     // The two are of one kind on both sides.
     ensures real_time { linux.is_real_time result ≡ bsd.is_real_time s }
