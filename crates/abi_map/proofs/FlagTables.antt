@@ -38,7 +38,8 @@ bit-own true given = and_zero_l given
 bit-own false given = and_self given
 
 -- a table gives no bit of a mask of which no row gives one
-pub moved_by-free : (rows : List (ℕ × ℕ)) (flags mask : ℕ) → is_free_of mask rows ≡ true → bit_and (moved_by rows flags) mask ≡ 0
+pub moved_by-free : (rows : List (ℕ × ℕ)) (flags mask : ℕ) → is_free_of mask rows ≡ true
+    → bit_and (moved_by rows flags) mask ≡ 0
 moved_by-free [] flags mask free = and_zero_l mask
 moved_by-free (row ∷ rows) flags mask free =
     let parts = and_parts _ _ free in
@@ -61,7 +62,8 @@ named-more given none flags rest (row ∷ rows) free named =
     )
 
 -- what a table makes of flags has each row's second mask exactly where the flags have its first
-named-all : (rows : List (ℕ × ℕ)) (flags : ℕ) → is_apart rows ≡ true → AllByRecursion (λ row. bit_and (moved_by rows flags) row.1 ≡ bit_of row flags) rows
+named-all : (rows : List (ℕ × ℕ)) (flags : ℕ) → is_apart rows ≡ true
+    → AllByRecursion (λ row. bit_and (moved_by rows flags) row.1 ≡ bit_of row flags) rows
 named-all [] flags apart = tt
 named-all (row ∷ rows) flags apart =
     let parts = and_parts _ _ apart in
@@ -85,7 +87,8 @@ moved_by-moves rows flags apart = record {
 }
 
 -- four masks, joined from the left, are what a table of those four rows makes
-pub four_rows : (p q r s : ℕ × ℕ) (flags a b c d : ℕ) → a ≡ bit_of p flags → b ≡ bit_of q flags → c ≡ bit_of r flags → d ≡ bit_of s flags
+pub four_rows : (p q r s : ℕ × ℕ) (flags a b c d : ℕ)
+    → a ≡ bit_of p flags → b ≡ bit_of q flags → c ≡ bit_of r flags → d ≡ bit_of s flags
     → bit_or (bit_or (bit_or a b) c) d ≡ moved_by (p ∷ q ∷ r ∷ s ∷ []) flags
 four_rows p q r s flags a b c d p_is q_is r_is s_is =
     let joined : bit_or (bit_or (bit_or a b) c) d ≡ bit_or a (bit_or b (bit_or c (bit_or d 0))) = simp (or_assoc, or_zero_r) in

@@ -7,7 +7,8 @@ use Rattle.std.specs.List.{All}
 abbrev pub open_flag_table : List (ℕ × ℕ)
 open_flag_table = (1, 1) ∷ (2, 2) ∷ (0x800, 0x4) ∷ (0x80000, 0x100000) ∷ []
 
--- the flags of a mapping, Linux's mask and FreeBSD's: MAP_SHARED, MAP_PRIVATE, MAP_FIXED, and MAP_ANONYMOUS, on FreeBSD MAP_ANON
+-- the flags of a mapping, Linux's mask and FreeBSD's: MAP_SHARED, MAP_PRIVATE, MAP_FIXED, and MAP_ANONYMOUS,
+-- which FreeBSD calls MAP_ANON
 abbrev pub map_flag_table : List (ℕ × ℕ)
 map_flag_table = (1, 1) ∷ (2, 2) ∷ (0x10, 0x10) ∷ (0x20, 0x1000) ∷ []
 

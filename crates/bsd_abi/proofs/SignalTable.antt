@@ -77,7 +77,8 @@ bsd_signal_of-number signal.SIGRT31 = refl
 bsd_signal_of-number signal.SIGRT32 = refl
 
 -- where none is found, no signal has the number
-pub none_has : (found : Option BsdSig) (n : ℕ) → found ≡ bsd_signal_of n → IfNone found ((s : BsdSig) → bsd_signal_number s ≢ n)
+pub none_has : (found : Option BsdSig) (n : ℕ) → found ≡ bsd_signal_of n
+    → IfNone found ((s : BsdSig) → bsd_signal_number s ≢ n)
 none_has None n is = λ s has. (cc (bsd_signal_of-number s, ap bsd_signal_of has))
 none_has (Some s) n is = tt
 
@@ -87,7 +88,8 @@ is_counted n [] = true
 is_counted n (s ∷ signals) = (linux_signal_number s == n) && is_counted (n + 1) signals
 
 -- so the one at place k has the number n + k
-pub number-counted : (signals : List BsdSig) (n k : ℕ) (d : BsdSig) → is_counted n signals ≡ true → k < length signals → linux_signal_number (get_or signals k d) ≡ n + k
+pub number-counted : (signals : List BsdSig) (n k : ℕ) (d : BsdSig) → is_counted n signals ≡ true → k < length signals
+    → linux_signal_number (get_or signals k d) ≡ n + k
 number-counted [] n k d is within = absurd (omega arith)
 number-counted (s ∷ signals) n zero d is within = grind arith
 number-counted (s ∷ signals) n (suc k) d is within =

@@ -1,7 +1,7 @@
 -- The signals, with their numbers on Linux and on FreeBSD.
 -- Source: signal(7) of Linux and signal(3) of FreeBSD, translated as FreeBSD's linux(4) does it. Which FreeBSD
--- numbers the real-time signals, SIGSTKFLT and SIGPWR have is this project's own, and so is that SIGSTOP, SIGTSTP, SIGTTIN
--- and SIGTTOU are discarded by default in place of stopping.
+-- numbers the real-time signals, SIGSTKFLT and SIGPWR have is this project's own, and so is that SIGSTOP,
+-- SIGTSTP, SIGTTIN and SIGTTOU are discarded by default in place of stopping.
 use Rattle.std.specs.Prelude.{ℕ, ◌-◌, ◌==◌, nat_le, Bool, true, false, List, [], ◌∷◌, find, Option}
 use Rattle.bsd_abi.specs.declared.signals.BsdSig.{BsdSig}
 use Rattle.bsd_abi.specs.declared.signals.BsdSig.TheVariants as signal

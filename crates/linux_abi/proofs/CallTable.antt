@@ -57,6 +57,7 @@ call_of-call_number call.Mprotect = refl
 call_of-call_number call.Madvise = refl
 
 -- where none is found, no call has the number
-pub none_has : (found : Option Call) (n : ℕ) → found ≡ call_of n → IfNone found ((c : Call) → call_number c ≢ n)
+pub none_has : (found : Option Call) (n : ℕ) → found ≡ call_of n
+    → IfNone found ((c : Call) → call_number c ≢ n)
 none_has None n is = λ c has. (cc (call_of-call_number c, ap call_of has))
 none_has (Some c) n is = tt

@@ -30,7 +30,8 @@ pub set_out-above : (set k : ℕ) → 64 ≤ k → bit_at (set_out_of set) k ≡
 set_out-above set k above = (set_out-moves set).no_other k (λ s same. absurd (omega (arith, linux_bit_of-lt s)))
 
 -- the Linux set of a FreeBSD set is the one with the same signals
-pub set_out-by_signals : (set linux : ℕ) → ((k : ℕ) → 64 ≤ k → bit_at linux k ≡ 0) → ((s : BsdSig) → bit_at linux (linux_bit_of s) ≡ bit_at set (bsd_bit s)) → set_out_of set ≡ linux
+pub set_out-by_signals : (set linux : ℕ) → ((k : ℕ) → 64 ≤ k → bit_at linux k ≡ 0)
+    → ((s : BsdSig) → bit_at linux (linux_bit_of s) ≡ bit_at set (bsd_bit s)) → set_out_of set ≡ linux
 set_out-by_signals set linux small same = same_from_bits _ _ (λ k. elim (cases_lt k 64) [
   | inl within ↦
       let Same : ℕ → Type 0 = λ j. bit_at (set_out_of set) j ≡ bit_at linux j in
@@ -41,7 +42,8 @@ set_out-by_signals set linux small same = same_from_bits _ _ (λ k. elim (cases_
 -- the union of two sets
 pub set_out-or : (a b : ℕ) → set_out_of (bit_or a b) ≡ bit_or (set_out_of a) (set_out_of b)
 set_out-or a b = set_out-by_signals _ _
-    (λ k above. bit_at_or _ _ k ∙ ap (λ n. max n (bit_at (set_out_of b) k)) (set_out-above a k above) ∙ ap (max 0) (set_out-above b k above))
+    (λ k above. bit_at_or _ _ k ∙ ap (λ n. max n (bit_at (set_out_of b) k)) (set_out-above a k above)
+    ∙ ap (max 0) (set_out-above b k above))
     (λ s. bit_at_or _ _ (linux_bit_of s)
     ∙ ap (λ n. max n (bit_at (set_out_of b) (linux_bit_of s))) (bit_at-set_out a s)
     ∙ ap (max (bit_at a (bsd_bit s))) (bit_at-set_out b s)
@@ -50,18 +52,22 @@ set_out-or a b = set_out-by_signals _ _
 -- what two sets have in common
 pub set_out-and : (a b : ℕ) → set_out_of (bit_and a b) ≡ bit_and (set_out_of a) (set_out_of b)
 set_out-and a b = set_out-by_signals _ _
-    (λ k above. bit_at_and _ _ k ∙ ap (λ n. min n (bit_at (set_out_of b) k)) (set_out-above a k above) ∙ ap (min 0) (set_out-above b k above))
+    (λ k above. bit_at_and _ _ k ∙ ap (λ n. min n (bit_at (set_out_of b) k)) (set_out-above a k above)
+    ∙ ap (min 0) (set_out-above b k above))
     (λ s. bit_at_and _ _ (linux_bit_of s)
     ∙ ap (λ n. min n (bit_at (set_out_of b) (linux_bit_of s))) (bit_at-set_out a s)
     ∙ ap (min (bit_at a (bsd_bit s))) (bit_at-set_out b s)
     ∙ sym (bit_at_and a b (bsd_bit s)))
 
 -- a set without the signals of another
-pub set_out-without : (a b : ℕ) → b < 2 ^ 128 → set_out_of (bit_and a (bit_not w128 b)) ≡ bit_and (set_out_of a) (bit_not w64 (set_out_of b))
+pub set_out-without : (a b : ℕ) → b < 2 ^ 128
+    → set_out_of (bit_and a (bit_not w128 b)) ≡ bit_and (set_out_of a) (bit_not w64 (set_out_of b))
 set_out-without a b small = set_out-by_signals _ _
-    (λ k above. bit_at_and _ _ k ∙ ap (λ n. min n (bit_at (bit_not w64 (set_out_of b)) k)) (set_out-above a k above) ∙ omega arith)
+    (λ k above. bit_at_and _ _ k ∙ ap (λ n. min n (bit_at (bit_not w64 (set_out_of b)) k)) (set_out-above a k above)
+    ∙ omega arith)
     (λ s. bit_at_and _ _ (linux_bit_of s)
-    ∙ ap (min (bit_at (set_out_of a) (linux_bit_of s))) (bit_at_not w64 (set_out_of b) (linux_bit_of s) (set_out-lt b) (linux_bit_of-lt s))
+    ∙ ap (min (bit_at (set_out_of a) (linux_bit_of s)))
+    (bit_at_not w64 (set_out_of b) (linux_bit_of s) (set_out-lt b) (linux_bit_of-lt s))
     ∙ ap (λ n. min n (1 - bit_at (set_out_of b) (linux_bit_of s))) (bit_at-set_out a s)
     ∙ ap (λ n. min (bit_at a (bsd_bit s)) (1 - n)) (bit_at-set_out b s)
     ∙ sym (ap (min (bit_at a (bsd_bit s))) (bit_at_not w128 b (bsd_bit s) small (bsd_bit-lt s)))
@@ -91,7 +97,9 @@ same_bit s t =
 pub set_out-bit : (s : BsdSig) → set_out_of (2 ^ bsd_bit s) ≡ 2 ^ linux_bit_of s
 set_out-bit s = set_out-by_signals _ _
     (λ k above. bit_at-pow_other (linux_bit_of s) k (λ same. absurd (omega (arith, linux_bit_of-lt s))))
-    (λ t. bit_at-pow (linux_bit_of s) (linux_bit_of t) ∙ ap (λ same. if same then 1 else 0) (same_bit s t) ∙ sym (bit_at-pow (bsd_bit s) (bsd_bit t)))
+    (λ t. bit_at-pow (linux_bit_of s) (linux_bit_of t)
+    ∙ ap (λ same. if same then 1 else 0) (same_bit s t)
+    ∙ sym (bit_at-pow (bsd_bit s) (bsd_bit t)))
 
 -- the signals that are never blocked
 pub set_in-unblockable : set_in_of linux_signals.UNBLOCKABLE ≡ bsd_signals.UNBLOCKABLE

@@ -21,7 +21,8 @@ bit_lacking zero k small lacking = refl
 bit_lacking (suc b) k small lacking = absurd (omega (arith, pow_pos k))
 
 -- the mask of the other set is that bit, put to its place
-pub put_found : (old k j mask given : ℕ) → mask ≡ 2 ^ k → bit_and old mask ≢ 0 → given ≡ 2 ^ j → given ≡ bit_at old k * 2 ^ j
+pub put_found : (old k j mask given : ℕ) → mask ≡ 2 ^ k → bit_and old mask ≢ 0 → given ≡ 2 ^ j
+    → given ≡ bit_at old k * 2 ^ j
 put_found old k j mask given mask_is found given_is =
     let masked : bit_and old mask ≡ bit_at old k * 2 ^ k = ap (bit_and old) mask_is ∙ and_pow old k in
     let b_is : bit_at old k ≡ 1 = bit_found (bit_at old k) k (bit_at-lt old k) (λ none. found (masked ∙ none)) in

@@ -41,7 +41,8 @@ is_other : (to : BsdSig → ℕ) (s : BsdSig) (k : ℕ) → not (to s == k) ≡ 
 is_other to s k passed = λ same. eqb-false (to s) k (not-true (to s == k) passed) (sym same)
 
 -- a bit of none of the signals stays clear
-moved_bits-free : (from to : BsdSig → ℕ) (signals : List BsdSig) (set k : ℕ) → is_free_of to k signals ≡ true → bit_at (moved_bits from to signals set) k ≡ 0
+moved_bits-free : (from to : BsdSig → ℕ) (signals : List BsdSig) (set k : ℕ) → is_free_of to k signals ≡ true
+    → bit_at (moved_bits from to signals set) k ≡ 0
 moved_bits-free from to [] set k free = bit_at-zero k
 moved_bits-free from to (s ∷ signals) set k free =
     let parts = and_parts _ _ free in
@@ -56,8 +57,10 @@ named-more : (from to : BsdSig → ℕ) (set b k rest : ℕ) (signals : List Bsd
 named-more from to set b k rest [] small free named = tt
 named-more from to set b k rest (s ∷ signals) small free named =
     let parts = and_parts _ _ free in
-    let here = bit_at-put_other b k (to s) small (λ same. is_other to s k parts.0 (sym same)) in
-    (bit_at_or _ _ (to s) ∙ ap (λ n. max n (bit_at rest (to s))) here ∙ zero-max _ ∙ named.0, named-more from to set b k rest signals small parts.1 named.1)
+    let here = bit_at-put_other b k (to s) small (λ same. is_other to s k parts.0 (sym same)) in (
+      bit_at_or _ _ (to s) ∙ ap (λ n. max n (bit_at rest (to s))) here ∙ zero-max _ ∙ named.0,
+      named-more from to set b k rest signals small parts.1 named.1,
+    )
 
 -- each signal's bit goes to its place, where no two have one
 named-all : (from to : BsdSig → ℕ) (signals : List BsdSig) (set : ℕ) → is_distinct to signals ≡ true
@@ -76,12 +79,14 @@ named-all from to (s ∷ signals) set distinct =
     )
 
 -- where no signal at all has its bit at k, none of the list has
-is_free_of-none : (to : BsdSig → ℕ) (k : ℕ) (signals : List BsdSig) → ((s : BsdSig) → to s ≢ k) → is_free_of to k signals ≡ true
+is_free_of-none : (to : BsdSig → ℕ) (k : ℕ) (signals : List BsdSig) → ((s : BsdSig) → to s ≢ k)
+    → is_free_of to k signals ≡ true
 is_free_of-none to k [] none = refl
 is_free_of-none to k (s ∷ signals) none = both_true (ap not (ne_eqb (to s) k (none s))) (is_free_of-none to k signals none)
 
 -- so a map of sets does what it says, where no two signals have one bit
-moved_bits-moves : (from to : BsdSig → ℕ) (set : ℕ) → is_distinct to all_signals ≡ true → MovesSignals from to set (moved_bits from to all_signals set)
+moved_bits-moves : (from to : BsdSig → ℕ) (set : ℕ) → is_distinct to all_signals ≡ true
+    → MovesSignals from to set (moved_bits from to all_signals set)
 moved_bits-moves from to set distinct =
     let Moved : BsdSig → Type 0 = λ s. bit_at (moved_bits from to all_signals set) (to s) ≡ bit_at set (from s) in
     record {
@@ -121,9 +126,11 @@ put-lt (suc zero) k width small below = omega (arith, pow_below k width below)
 put-lt (suc (suc b)) k width small below = absurd (omega arith)
 
 -- a set lies below the power of two that all its bits lie below
-moved_bits-lt : (from to : BsdSig → ℕ) (width : ℕ) → ((s : BsdSig) → to s < width) → (signals : List BsdSig) (set : ℕ) → moved_bits from to signals set < 2 ^ width
+moved_bits-lt : (from to : BsdSig → ℕ) (width : ℕ) → ((s : BsdSig) → to s < width)
+    → (signals : List BsdSig) (set : ℕ) → moved_bits from to signals set < 2 ^ width
 moved_bits-lt from to width below [] set = pow_pos width
-moved_bits-lt from to width below (s ∷ signals) set = or_lt width _ _ (put-lt _ _ width (bit_at-lt set (from s)) (below s)) (moved_bits-lt from to width below signals set)
+moved_bits-lt from to width below (s ∷ signals) set =
+    or_lt width _ _ (put-lt _ _ width (bit_at-lt set (from s)) (below s)) (moved_bits-lt from to width below signals set)
 
 pub set_out-lt : (set : ℕ) → set_out_of set < 2 ^ 64
 unfolding set_out_of

@@ -1,7 +1,7 @@
 //! Signals and sets of signals between Linux and FreeBSD.
 //!
-//! Every map is total and takes no memory, and each leads back from the other. The definitions that contracts cite stand in
-//! `specs/`, over the table of signals of `bsd_abi`.
+//! Every map is total and takes no memory, and each leads back from the other. The definitions that contracts
+//! cite stand in `specs/`, over the table of signals of `bsd_abi`.
 #![tactic(auto)]
 
 pub mod sets;

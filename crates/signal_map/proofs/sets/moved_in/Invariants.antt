@@ -6,4 +6,5 @@ use Rattle.signal_map.proofs.sets.moved_in.Given as goal
 
 abbrev pub invariant-loop-signal : goal.invariant-loop-signal
 invariant-loop-signal l =
-    bit_or l.bsd (moved_bits linux_bit_of bsd_bit (drop l.signal-index l.signals) l.linux) ≡ moved_bits linux_bit_of bsd_bit l.signals l.linux
+    bit_or l.bsd (moved_bits linux_bit_of bsd_bit (drop l.signal-index l.signals) l.linux)
+    ≡ moved_bits linux_bit_of bsd_bit l.signals l.linux

@@ -6,4 +6,5 @@ use Rattle.signal_map.proofs.sets.moved_out.Given as goal
 
 abbrev pub invariant-loop-signal : goal.invariant-loop-signal
 invariant-loop-signal l =
-    bit_or l.linux (moved_bits bsd_bit linux_bit_of (drop l.signal-index l.signals) l.bsd) ≡ moved_bits bsd_bit linux_bit_of l.signals l.bsd
+    bit_or l.linux (moved_bits bsd_bit linux_bit_of (drop l.signal-index l.signals) l.bsd)
+    ≡ moved_bits bsd_bit linux_bit_of l.signals l.bsd
