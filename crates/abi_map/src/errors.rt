@@ -1,0 +1,41 @@
+//! FreeBSD's errors as Linux's.
+ghost use Rattle.std.specs.Prelude.{◌≡◌, Some};
+ghost use Rattle.linux_abi.specs.LinuxErrno.{linux_errno_number};
+ghost use Rattle.bsd_abi.specs.BsdErrno.{bsd_errno_number};
+ghost use Rattle.abi_map.specs.Errors.{errno_out_of, linux_number_of};
+
+use bsd_abi::BsdErrno;
+use linux_abi::LinuxErrno;
+
+/// The Linux error of a FreeBSD error: that of the same name, whose number may be another (FreeBSD's linux(4)).
+pub fn errno_out(e: BsdErrno) -> LinuxErrno
+    ensures value { result ≡ errno_out_of e }
+    // The table has this error's number on Linux beside its number on FreeBSD.
+    ensures numbers { linux_number_of (bsd_errno_number e) ≡ Some (linux_errno_number result) }
+{
+    match e {
+        BsdErrno::EPERM => LinuxErrno::EPERM,
+        BsdErrno::ENOENT => LinuxErrno::ENOENT,
+        BsdErrno::ESRCH => LinuxErrno::ESRCH,
+        BsdErrno::EINTR => LinuxErrno::EINTR,
+        BsdErrno::EIO => LinuxErrno::EIO,
+        BsdErrno::EBADF => LinuxErrno::EBADF,
+        BsdErrno::EAGAIN => LinuxErrno::EAGAIN,
+        BsdErrno::ENOMEM => LinuxErrno::ENOMEM,
+        BsdErrno::EACCES => LinuxErrno::EACCES,
+        BsdErrno::EFAULT => LinuxErrno::EFAULT,
+        BsdErrno::EEXIST => LinuxErrno::EEXIST,
+        BsdErrno::ENODEV => LinuxErrno::ENODEV,
+        BsdErrno::EINVAL => LinuxErrno::EINVAL,
+        BsdErrno::ENFILE => LinuxErrno::ENFILE,
+        BsdErrno::EMFILE => LinuxErrno::EMFILE,
+        BsdErrno::ENOTTY => LinuxErrno::ENOTTY,
+        BsdErrno::ENOSPC => LinuxErrno::ENOSPC,
+        BsdErrno::ESPIPE => LinuxErrno::ESPIPE,
+        BsdErrno::EPIPE => LinuxErrno::EPIPE,
+        BsdErrno::EDEADLK => LinuxErrno::EDEADLK,
+        BsdErrno::ENOSYS => LinuxErrno::ENOSYS,
+        BsdErrno::ELOOP => LinuxErrno::ELOOP,
+        BsdErrno::ETIMEDOUT => LinuxErrno::ETIMEDOUT,
+    }
+}

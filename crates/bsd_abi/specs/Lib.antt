@@ -1,0 +1,2 @@
+pub mod BsdErrno
+pub mod BsdSig

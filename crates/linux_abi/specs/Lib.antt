@@ -1,0 +1,10 @@
+pub mod LinuxErrno
+pub mod LinuxSig
+pub mod MaskChange
+pub mod Call
+pub mod DescriptorOperation
+pub mod EpollOperation
+pub mod FutexOperation
+pub mod WakeOp
+pub mod Advice
+pub mod ClockId

@@ -1,0 +1,4 @@
+pub mod SetMaps
+pub mod SetLoops
+pub mod SignalMaps
+pub mod SetLaws
