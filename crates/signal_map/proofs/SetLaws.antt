@@ -14,8 +14,8 @@ use Rattle.bsd_abi.specs.declared.signals.TheConstants as bsd_signals
 use Rattle.bsd_abi.proofs.SignalTable.{each_signal}
 use Rattle.signal_map.specs.Signals.{signal_in_of, signal_out_of}
 use Rattle.signal_map.specs.Sets.{linux_bit_of, set_in_of, set_out_of}
-use Rattle.signal_map.proofs.SignalMaps.{signal_out_of-in}
-use Rattle.signal_map.proofs.SetMaps.{at_place, linux_bit-at_place, linux_bit_of-lt, bsd_bit-lt, set_in-moves, set_out-moves, set_out-lt}
+use Rattle.signal_map.proofs.SignalMaps.{signal_out_of-in, signal_in_of-out}
+use Rattle.signal_map.proofs.SetMaps.{at_place, linux_bit-at_place, linux_bit_of-lt, bsd_bit-lt, set_in-moves, set_out-moves, set_out-lt, set_out-in}
 
 -- a Linux signal is in a Linux set exactly where its FreeBSD signal is in the FreeBSD set
 pub bit_at-set_in : (set : ℕ) (s : LinuxSig) → bit_at (set_in_of set) (bsd_bit (signal_in_of s)) ≡ bit_at set (linux_bit s)
@@ -109,3 +109,6 @@ set_in-unblockable = refl
 pub set_out-unblockable : set_out_of bsd_signals.UNBLOCKABLE ≡ linux_signals.UNBLOCKABLE
 unfolding set_out_of
 set_out-unblockable = refl
+
+-- the laws together, to be named on a function above
+pub ruleset set_laws = (set_out-or, set_out-and, set_out-without, set_out-bit, set_out-in, set_in-unblockable, set_out-unblockable, bit_at-set_in, bit_at-set_out, signal_out_of-in, signal_in_of-out)
