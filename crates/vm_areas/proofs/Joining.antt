@@ -1,5 +1,5 @@
 -- Pieces joined from either end make the same areas.
-use Rattle.std.proofs.Common.{◌≡◌, ◌≢◌, ℕ, Bool, true, false, ◌+◌, ◌^◌, refl, sym, ◌∙◌, ap, arith, inl, inr, List, [], ◌∷◌, ◌++◌, Option, Some, None, if◌then◌else◌, ◌==◌, map, fold, append-nil, append_assoc}
+use Rattle.std.proofs.Common.{◌≡◌, ◌≢◌, ℕ, Bool, true, false, ◌+◌, ◌^◌, refl, sym, ◌∙◌, ap, arith, inl, inr, List, [], ◌∷◌, ◌++◌, Option, Some, None, if◌then◌else◌, ◌==◌, map, fold, append-nil, append_assoc, ne_eqb}
 use Rattle.std.proofs.lemmas.Bool.{cases_Bool}
 use Rattle.vm_areas.specs.declared.runs.Area.{Area}
 use Rattle.vm_areas.specs.declared.runs.Rights.{Rights}
@@ -107,3 +107,18 @@ painted-fold areas first pages rights =
     ∙ ap last (fold-range first pages rights below)
     ∙ fold-parts (first + pages) (2 ^ 53) areas (below ++ range)
     ∙ ap joined (append_assoc below range (map (clipped (first + pages) (2 ^ 53)) areas))
+
+-- one more piece, which is not empty, behind areas that end with a last one
+with_piece-some : (areas front : List Area) (last piece : Area) → areas ≡ front ++ last ∷ [] → (piece.pages ≡ 0 → ⊥) → with_piece areas piece ≡ front ++ joined_to last (piece ∷ [])
+with_piece-some areas front last piece is some =
+    ap (λ b. if b then areas else with_last areas piece) (ne_eqb piece.pages 0 some)
+    ∙ ap (λ r. with_last r piece) is
+    ∙ with_last-append front last piece
+
+pub with_piece-touching : (areas front : List Area) (last piece : Area) → areas ≡ front ++ last ∷ [] → (piece.pages ≡ 0 → ⊥) → touches last piece ≡ true → with_piece areas piece ≡ front ++ grown last piece ∷ []
+with_piece-touching areas front last piece is some e =
+    with_piece-some areas front last piece is some ∙ ap (λ r. front ++ r) (joined_to-touching last piece [] e)
+
+pub with_piece-apart : (areas front : List Area) (last piece : Area) → areas ≡ front ++ last ∷ [] → (piece.pages ≡ 0 → ⊥) → touches last piece ≡ false → with_piece areas piece ≡ (front ++ last ∷ []) ++ piece ∷ []
+with_piece-apart areas front last piece is some e =
+    with_piece-some areas front last piece is some ∙ ap (λ r. front ++ r) (joined_to-apart last piece [] e) ∙ sym (append_assoc front (last ∷ []) (piece ∷ []))

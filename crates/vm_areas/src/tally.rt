@@ -43,13 +43,12 @@ fn count_piece(tally: Tally, piece: Area) -> Tally
 }
 
 // Counts the parts of the areas from page `from` on and below page `to`.
-fn count_parts(tally: Tally, areas: &[Area], from: u64, to: u64) -> Tally
+fn count_parts(mut tally: Tally, areas: &[Area], from: u64, to: u64) -> Tally
     requires limit { to ≤ 2 ^ 53 }
     requires count { tally.count + length areas.now < 2 ^ 32 }
     ensures tally { (row : List AnArea) → tally ≡ tally_of row → result ≡ tally_of (fold (with_part from to) row areas.now) }
     ensures count { result.count ≤ tally.count + length areas.now }
 {
-    let mut tally = tally;
     for area in areas {
         tally = count_piece(tally, area.clipped(from, to));
     }
