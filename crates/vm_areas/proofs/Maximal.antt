@@ -1,5 +1,5 @@
 -- The rights at a page, before, at and behind areas.
-use Rattle.std.proofs.Common.{◌≡◌, ◌≢◌, ℕ, Bool, true, false, ◌+◌, ◌^◌, ◌<◌, ◌≤◌, ◌&&◌, leb, ltb, refl, sym, ◌∙◌, ap, arith, inl, inr, List, [], ◌∷◌, Option, Some, None, if◌then◌else◌, le-leb, lt-ltb, le-ltb, leb-true, ltb-true, nat_le, nat_lt}
+use Rattle.std.proofs.Common.{◌≡◌, ◌≢◌, ℕ, Bool, true, false, ◌+◌, ◌^◌, ◌<◌, ◌≤◌, ◌&&◌, leb, ltb, refl, sym, ◌∙◌, ap, arith, inl, inr, List, [], ◌∷◌, Option, Some, None, if◌then◌else◌, le-leb, lt-ltb, le-ltb, leb-true, ltb-true, nat_le, nat_lt, All, zero, suc}
 use Rattle.std.proofs.lemmas.Bool.{and_parts, and_from, and_left, and_right, lt-leb, cases_lt}
 use Rattle.vm_areas.specs.declared.runs.Area.{Area}
 use Rattle.vm_areas.specs.PageMap.{end_of, within, rights_at, IsApart, IsMaximal}
@@ -60,3 +60,9 @@ rights_at-end area (next ∷ areas) maximal there =
         let same : area.rights ≡ next.rights = cc in
         maximal.2.1 at same
     ]
+
+-- each area ends at or before the last page
+pub ends_below : (areas : List Area) → IsMaximal areas → All (λ area. end_of area ≤ 2 ^ 53) areas
+ends_below [] maximal k d lt = absurd (omega arith)
+ends_below (area ∷ areas) maximal zero d lt = maximal.1
+ends_below (area ∷ areas) maximal (suc k) d lt = ends_below areas maximal.3 k d (omega arith)

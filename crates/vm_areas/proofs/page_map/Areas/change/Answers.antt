@@ -27,7 +27,7 @@ returns-clause-areas c =
     let what = painted-is old c.args.first c.args.pages c.args.rights c.requires c.self.invariant.areas.maximal in
     record {
       maximal = maximal_along new c.swap.new.x.items (sym is) what.maximal;
-      few = ?;
+      few = omega (arith, ap vec_len c.swap.ensures.x_after, c.swap.new.x.ok);
     }
 
 pub invariant_of-self-2 : goal.invariant_of-self-2
