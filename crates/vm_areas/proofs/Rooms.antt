@@ -1,5 +1,5 @@
 -- The highest place between areas is the highest free range.
-use Rattle.std.proofs.Common.{◌≡◌, ℕ, Bool, true, false, ◌+◌, ◌-◌, ◌<◌, ◌≤◌, min, max, refl, sym, ◌∙◌, ap, subst, arith, inl, inr, List, [], ◌∷◌, Option, Some, None, if◌then◌else◌, nat_le, leb-true, leb-false, le_refl}
+use Rattle.std.proofs.Common.{◌≡◌, ℕ, Bool, true, false, ◌+◌, ◌-◌, ◌<◌, ◌≤◌, min, max, refl, sym, ◌∙◌, ap, subst, arith, inl, inr, List, [], ◌∷◌, Option, Some, None, if◌then◌else◌, nat_le, leb-true, leb-false, le_refl, length, drop, drop-cons, get_or, add-one}
 use Rattle.std.specs.Option.{option_or, MatchOption}
 use Rattle.std.proofs.lemmas.Bool.{cases_Bool, cases_lt}
 use Rattle.vm_areas.specs.declared.runs.Area.{Area}
@@ -117,17 +117,15 @@ as_rooms areas pages (Some first) answer = record {
 pub highest_room : (areas : List Area) (pages : ℕ) → 0 < pages → IsMaximal areas → MatchOption (highest_place pages 16 areas) (HasNoRoom areas pages) (IsHighestRoom areas pages)
 highest_room areas pages some maximal = as_rooms areas pages (highest_place pages 16 areas) (is_answer areas pages 16 some maximal)
 
--- no pages are free anywhere, so as high as may be
-pub empty_room : (areas : List Area) → IsHighestRoom areas 0 0x7fff00000
-empty_room areas = record {
-  room = record { from = omega arith; below = omega arith; free = λ page from below. absurd (omega arith) };
-  highest = λ other above room. omega (arith, room.below);
-}
-
 option_or-assoc : (x y z : Option ℕ) → option_or (option_or x y) z ≡ option_or x (option_or y z)
 option_or-assoc None y z = refl
 option_or-assoc (Some v) y z = refl
 
 -- a step of the walk keeps the answer
-pub walk_on : (pages from : ℕ) (area : Area) (areas : List Area) (best : Option ℕ) → option_or (highest_place pages from (area ∷ areas)) best ≡ option_or (highest_place pages (max from (end_of area)) areas) (option_or (place_between pages from (min area.first 0x7fff00000)) best)
-walk_on pages from area areas best = option_or-assoc (highest_place pages (max from (end_of area)) areas) (place_between pages from (min area.first 0x7fff00000)) best
+pub walk_step : (pages from i : ℕ) (areas : List Area) (best answer : Option ℕ) (d : Area) → i < length areas → option_or (highest_place pages from (drop i areas)) best ≡ answer → option_or (highest_place pages (max from (end_of (get_or areas i d))) (drop (i + 1) areas)) (option_or (place_between pages from (min (get_or areas i d).first 0x7fff00000)) best) ≡ answer
+walk_step pages from i areas best answer d lt is =
+    let area = get_or areas i d in
+    let cut : drop i areas ≡ area ∷ drop (i + 1) areas = rw add-one (drop-cons areas i d lt) in
+    sym (option_or-assoc (highest_place pages (max from (end_of area)) (drop (i + 1) areas)) (place_between pages from (min area.first 0x7fff00000)) best)
+    ∙ ap (λ (r : List Area). option_or (highest_place pages from r) best) (sym cut)
+    ∙ is
