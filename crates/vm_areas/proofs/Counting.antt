@@ -1,11 +1,10 @@
 -- How many areas there are once a piece stands behind them, and which is the last.
-use Rattle.std.proofs.Common.{◌≡◌, ℕ, Bool, true, false, ◌+◌, refl, sym, ◌∙◌, ap, arith, List, [], ◌∷◌, ◌++◌, length, length-append, Option, Some, None, if◌then◌else◌, ne_eqb, eq-eqb}
+use Rattle.std.proofs.Common.{◌≡◌, true, false, ◌+◌, refl, sym, ◌∙◌, ap, arith, List, [], ◌∷◌, ◌++◌, length, length-append, Option, Some, None, if◌then◌else◌, ne_eqb, eq-eqb}
 use Rattle.std.specs.Option.{option_or}
 use Rattle.vm_areas.specs.declared.runs.Area.{Area}
-use Rattle.vm_areas.specs.declared.tally.Tally.{Tally}
-use Rattle.vm_areas.specs.Painted.{touches, grown, joined_to}
+use Rattle.vm_areas.specs.Painted.{touches, grown}
 use Rattle.vm_areas.specs.Steps.{with_last, with_piece, last_of, tally_of}
-use Rattle.vm_areas.proofs.Joining.{with_last-append, with_piece-touching, with_piece-apart}
+use Rattle.vm_areas.proofs.Joining.{with_piece-touching, with_piece-apart}
 
 some_is : (one other : Area) → Some one ≡ Some other → one ≡ other
 some_is one other e = cc

@@ -1,5 +1,5 @@
 -- The rights at a page, before, at and behind areas.
-use Rattle.std.proofs.Common.{◌≡◌, ◌≢◌, ℕ, Bool, true, false, ◌+◌, ◌^◌, ◌<◌, ◌≤◌, ◌&&◌, leb, ltb, refl, sym, ◌∙◌, ap, arith, inl, inr, List, [], ◌∷◌, Option, Some, None, if◌then◌else◌, le-leb, lt-ltb, le-ltb, leb-true, ltb-true, nat_le, nat_lt, All, zero, suc}
+use Rattle.std.proofs.Common.{◌≡◌, ℕ, true, false, ◌+◌, ◌^◌, ◌<◌, ◌≤◌, refl, ◌∙◌, ap, arith, inl, inr, List, [], ◌∷◌, Some, None, if◌then◌else◌, le-leb, lt-ltb, le-ltb, leb-true, ltb-true, nat_le, nat_lt, All, zero, suc}
 use Rattle.std.proofs.lemmas.Bool.{and_parts, and_from, and_left, and_right, lt-leb, cases_lt}
 use Rattle.vm_areas.specs.declared.runs.Area.{Area}
 use Rattle.vm_areas.specs.PageMap.{end_of, within, rights_at, IsApart, IsMaximal}
@@ -55,10 +55,10 @@ rights_at-end area (next ∷ areas) maximal there =
     elim (cases_lt (end_of area) next.first) [
       | inl gap ↦ let none = rights_at-before (next ∷ areas) next.first (end_of area) maximal.3 (omega arith) gap in absurd (cc)
       | inr close ↦
-        let at : end_of area ≡ next.first = omega arith in
-        let here = rights_at-head next areas (end_of area) (within-true next.first next.pages (end_of area) (omega arith) (omega arith)) in
-        let same : area.rights ≡ next.rights = cc in
-        maximal.2.1 at same
+          let at : end_of area ≡ next.first = omega arith in
+          let here = rights_at-head next areas (end_of area) (within-true next.first next.pages (end_of area) (omega arith) (omega arith)) in
+          let same : area.rights ≡ next.rights = cc in
+          maximal.2.1 at same
     ]
 
 -- each area ends at or before the last page

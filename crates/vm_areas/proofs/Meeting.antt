@@ -1,5 +1,5 @@
 -- Areas that have a page of a range.
-use Rattle.std.proofs.Common.{◌≡◌, ◌↔◌, ℕ, Bool, true, false, not, ◌+◌, ◌-◌, ◌<◌, ◌≤◌, ◌||◌, ◌&&◌, max, refl, sym, ◌∙◌, ap, subst, arith, inl, inr, List, [], ◌∷◌, Option, Some, None, IsSome, IsSomeAnd, IsTrue, lt-ltb, ltb-true, ltb-false}
+use Rattle.std.proofs.Common.{◌≡◌, ◌↔◌, ℕ, Bool, true, false, ◌+◌, ◌<◌, ◌≤◌, ◌||◌, max, refl, sym, ◌∙◌, subst, arith, inl, inr, List, [], ◌∷◌, Option, Some, None, IsSome, IsSomeAnd, IsTrue, lt-ltb, ltb-true}
 use Rattle.std.specs.List.{list_any}
 use Rattle.std.proofs.lemmas.Bool.{cases_Bool, cases_lt, both_ways, and_parts, and_from, or_cases}
 use Rattle.vm_areas.specs.declared.runs.Area.{Area}
@@ -51,12 +51,13 @@ some_none (Some r) there none = cc
 
 pub none_met_when_free : (areas : List Area) (first pages : ℕ) → (list_any (meets first (first + pages)) areas ≡ false) ↔ EachPage first pages (IsFreeAt areas)
 none_met_when_free areas first pages =
-    let any = list_any (meets first (first + pages)) areas in
-    (λ none page from below. free_unless_met first (first + pages) areas page none from below,
-     λ free. elim (cases_Bool any) [
-       | inl met ↦ (let m = mapped_if_met first (first + pages) areas met in absurd (some_none (rights_at areas m.0) m.3 (free m.0 m.1 m.2)))
-       | inr none ↦ none
-     ])
+    let any = list_any (meets first (first + pages)) areas in (
+      λ none page from below. free_unless_met first (first + pages) areas page none from below,
+      λ free. elim (cases_Bool any) [
+        | inl met ↦ (let m = mapped_if_met first (first + pages) areas met in absurd (some_none (rights_at areas m.0) m.3 (free m.0 m.1 m.2)))
+        | inr none ↦ none
+      ],
+    )
 
 -- the same of areas with the right to execute
 not_before : (area : Area) (areas : List Area) (page : ℕ) → IsMaximal (area ∷ areas) → IsExecutableAt areas page → within area.first area.pages page ≡ false
@@ -71,12 +72,12 @@ code_if_met from to [] maximal met = cc
 code_if_met from to (area ∷ areas) maximal met =
     elim (or_cases (meets_code from to area) (list_any (meets_code from to) areas) met) [
       | inl e ↦
-        (let parts = and_parts (meets from to area) area.rights.execute e in
-        let m = met_at from to area parts.0 in
-        (max area.first from, m.0, m.1, subst (λ (o : Option Rights). IsSomeAnd o (λ rights. IsTrue rights.execute)) (sym (rights_at-head area areas (max area.first from) m.2)) parts.1))
+          (let parts = and_parts (meets from to area) area.rights.execute e in
+          let m = met_at from to area parts.0 in
+          (max area.first from, m.0, m.1, subst (λ (o : Option Rights). IsSomeAnd o (λ rights. IsTrue rights.execute)) (sym (rights_at-head area areas (max area.first from) m.2)) parts.1))
       | inr e ↦
-        (let m = code_if_met from to areas maximal.3 e in
-        (m.0, m.1, m.2, subst (λ (o : Option Rights). IsSomeAnd o (λ rights. IsTrue rights.execute)) (sym (rights_at-tail area areas m.0 (not_before area areas m.0 maximal m.3))) m.3))
+          (let m = code_if_met from to areas maximal.3 e in
+          (m.0, m.1, m.2, subst (λ (o : Option Rights). IsSomeAnd o (λ rights. IsTrue rights.execute)) (sym (rights_at-tail area areas m.0 (not_before area areas m.0 maximal m.3))) m.3))
     ]
 
 met_if_code : (from to : ℕ) (areas : List Area) (page : ℕ) → from ≤ page → page < to → IsExecutableAt areas page → list_any (meets_code from to) areas ≡ false → ⊥
@@ -85,16 +86,17 @@ met_if_code from to (area ∷ areas) page above below code none =
     let parts = or_left (meets_code from to area) (list_any (meets_code from to) areas) none in
     elim (cases_Bool (within area.first area.pages page)) [
       | inl e ↦
-        (let may : area.rights.execute ≡ true = subst (λ (o : Option Rights). IsSomeAnd o (λ rights. IsTrue rights.execute)) (rights_at-head area areas page e) code in
-        both_ways (meets_code from to area) parts.0 (and_from (meets from to area) area.rights.execute (meets_at from to area page above below e) may))
+          (let may : area.rights.execute ≡ true = subst (λ (o : Option Rights). IsSomeAnd o (λ rights. IsTrue rights.execute)) (rights_at-head area areas page e) code in
+          both_ways (meets_code from to area) parts.0 (and_from (meets from to area) area.rights.execute (meets_at from to area page above below e) may))
       | inr e ↦ met_if_code from to areas page above below (subst (λ (o : Option Rights). IsSomeAnd o (λ rights. IsTrue rights.execute)) (rights_at-tail area areas page e) code) parts.1
     ]
 
 pub code_met : (areas : List Area) (first pages : ℕ) → IsMaximal areas → (list_any (meets_code first (first + pages)) areas ≡ true) ↔ SomePage first pages (IsExecutableAt areas)
 code_met areas first pages maximal =
-    let any = list_any (meets_code first (first + pages)) areas in
-    (λ met. let m = code_if_met first (first + pages) areas maximal met in record { page = m.0; from = m.1; below = m.2; holds = m.3 },
-     λ some. elim (cases_Bool any) [
-       | inl met ↦ met
-       | inr none ↦ absurd (met_if_code first (first + pages) areas some.page some.from some.below some.holds none)
-     ])
+    let any = list_any (meets_code first (first + pages)) areas in (
+      λ met. let m = code_if_met first (first + pages) areas maximal met in record { page = m.0; from = m.1; below = m.2; holds = m.3 },
+      λ some. elim (cases_Bool any) [
+        | inl met ↦ met
+        | inr none ↦ absurd (met_if_code first (first + pages) areas some.page some.from some.below some.holds none)
+      ],
+    )

@@ -1,5 +1,5 @@
 -- What the areas after a change are: maximal runs, with the new rights in the range and the old ones elsewhere.
-use Rattle.std.proofs.Common.{◌≡◌, ◌≢◌, ℕ, Bool, true, false, ◌+◌, ◌-◌, ◌^◌, ◌<◌, ◌≤◌, min, max, refl, sym, ◌∙◌, ap, subst, arith, inl, inr, List, [], ◌∷◌, ◌++◌, Option, Some, None, if◌then◌else◌, ◌==◌, map, eqb-true, le_trans, le_refl}
+use Rattle.std.proofs.Common.{◌≡◌, ℕ, Bool, true, false, ◌+◌, ◌^◌, ◌<◌, ◌≤◌, refl, sym, ◌∙◌, ap, subst, arith, inl, inr, List, [], ◌∷◌, ◌++◌, Option, Some, None, if◌then◌else◌, ◌==◌, map, eqb-true, le_trans, le_refl}
 use Rattle.std.specs.Option.{option_or}
 use Rattle.std.proofs.lemmas.Bool.{cases_Bool, cases_lt, eqb-false}
 use Rattle.vm_areas.specs.declared.runs.Area.{Area}
@@ -75,7 +75,7 @@ rights_at-joined_to piece (next ∷ areas) page =
       | inr e ↦ ap (λ r. rights_at r page) (joined_to-apart piece next areas e)
     ]
 
-within-empty : (first pages page : ℕ) → pages ≡ 0 → within first pages page ≡ false
+pub within-empty : (first pages page : ℕ) → pages ≡ 0 → within first pages page ≡ false
 within-empty first pages page empty =
     elim (cases_lt page first) [
       | inl before ↦ within-before first pages page before
@@ -123,25 +123,25 @@ painted-at areas first pages rights page maximal =
     let range = range_of first pages rights in
     let behind = map (clipped end (2 ^ 53)) areas in
     let pieces : rights_at (joined (below ++ (range ++ behind))) page ≡ option_or (rights_at below page) (option_or (rights_at range page) (rights_at behind page)) =
-      rights_at-joined (below ++ (range ++ behind)) page ∙ rights_at-append below (range ++ behind) page ∙ ap (λ o. option_or (rights_at below page) o) (rights_at-append range behind page) in
+    rights_at-joined (below ++ (range ++ behind)) page ∙ rights_at-append below (range ++ behind) page ∙ ap (λ o. option_or (rights_at below page) o) (rights_at-append range behind page) in
     let chosen = λ (b : Bool). if b then rights else rights_at areas page in
     elim (cases_lt page first) [
       | inl before ↦
-        (let out = within-before first pages page before in
-        let b = rights_at-parts 0 first areas page (omega arith) before in
-        let r = rights_at-range_out first pages rights page out in
-        let a = rights_at-parts_below end (2 ^ 53) areas page (omega arith) in
-        pieces ∙ (λ i. option_or (b i) (option_or (r i) (a i))) ∙ option_or-None (rights_at areas page) ∙ sym (ap chosen out))
+          (let out = within-before first pages page before in
+          let b = rights_at-parts 0 first areas page (omega arith) before in
+          let r = rights_at-range_out first pages rights page out in
+          let a = rights_at-parts_below end (2 ^ 53) areas page (omega arith) in
+          pieces ∙ (λ i. option_or (b i) (option_or (r i) (a i))) ∙ option_or-None (rights_at areas page) ∙ sym (ap chosen out))
       | inr from ↦ (let b = rights_at-parts_above 0 first areas page from in elim (cases_lt page end) [
         | inl inside ↦
-          (let r = rights_at-range first pages rights page from inside in
-          let a = rights_at-parts_below end (2 ^ 53) areas page inside in
-          pieces ∙ (λ i. option_or (b i) (option_or (r i) (a i))) ∙ option_or-None rights ∙ sym (ap chosen (within-true first pages page from inside)))
+            (let r = rights_at-range first pages rights page from inside in
+            let a = rights_at-parts_below end (2 ^ 53) areas page inside in
+            pieces ∙ (λ i. option_or (b i) (option_or (r i) (a i))) ∙ option_or-None rights ∙ sym (ap chosen (within-true first pages page from inside)))
         | inr past ↦
-          (let out = within-behind first pages page past in
-          let r = rights_at-range_out first pages rights page out in
-          let a = rights_at-behind end areas page maximal past in
-          pieces ∙ (λ i. option_or (b i) (option_or (r i) (a i))) ∙ sym (ap chosen out))
+            (let out = within-behind first pages page past in
+            let r = rights_at-range_out first pages rights page out in
+            let a = rights_at-behind end areas page maximal past in
+            pieces ∙ (λ i. option_or (b i) (option_or (r i) (a i))) ∙ sym (ap chosen out))
       ])
     ]
 
@@ -238,9 +238,9 @@ IsMaximal-joined_to piece [] some below starts maximal = (some, below, tt, tt)
 IsMaximal-joined_to piece (next ∷ areas) some below starts maximal =
     elim (cases_Bool (touches piece next)) [
       | inl e ↦
-        (let t = touching piece next e in
-        let ends : piece.first + piece.pages ≡ next.first = t.0 in
-        subst (λ (r : List Area). IsMaximal r) (sym (joined_to-touching piece next areas e)) (omega arith, omega arith, IsApart-grown piece next areas e maximal.2, maximal.3))
+          (let t = touching piece next e in
+          let ends : piece.first + piece.pages ≡ next.first = t.0 in
+          subst (λ (r : List Area). IsMaximal r) (sym (joined_to-touching piece next areas e)) (omega arith, omega arith, IsApart-grown piece next areas e maximal.2, maximal.3))
       | inr e ↦ subst (λ (r : List Area). IsMaximal r) (sym (joined_to-apart piece next areas e)) (some, below, IsApart-from piece next areas starts e, maximal)
     ]
 
@@ -251,10 +251,10 @@ IsMaximal-joined (piece ∷ pieces) order =
     elim (cases_Bool (piece.pages == 0)) [
       | inl e ↦ subst (λ (r : List Area). IsMaximal r) (sym (join-empty piece (joined pieces) e)) rest
       | inr e ↦
-        (let nonzero : piece.pages ≡ 0 → ⊥ = eqb-false piece.pages 0 e in
-        let some : 0 < piece.pages = omega arith in
-        subst (λ (r : List Area). IsMaximal r) (sym (join-some piece (joined pieces) e))
-        (IsMaximal-joined_to piece (joined pieces) some (order.0 some) (StartsAt-joined (end_of piece) pieces (order.1 some)) rest))
+          (let nonzero : piece.pages ≡ 0 → ⊥ = eqb-false piece.pages 0 e in
+          let some : 0 < piece.pages = omega arith in
+          subst (λ (r : List Area). IsMaximal r) (sym (join-some piece (joined pieces) e))
+          (IsMaximal-joined_to piece (joined pieces) some (order.0 some) (StartsAt-joined (end_of piece) pieces (order.1 some)) rest))
     ]
 
 painted-maximal : (areas : List Area) (first pages : ℕ) (rights : Option Rights) → first + pages ≤ 2 ^ 53 → IsMaximal areas → IsMaximal (painted areas first pages rights)

@@ -1,12 +1,12 @@
 -- The page that a walk over mapped pages reaches: the first from there on that is not mapped.
-use Rattle.std.proofs.Common.{◌≡◌, ◌↔◌, ℕ, Bool, true, false, ◌+◌, ◌<◌, ◌≤◌, refl, sym, ◌∙◌, ap, subst, arith, inl, inr, List, [], ◌∷◌, fold, Option, Some, None, IsSome, if◌then◌else◌}
+use Rattle.std.proofs.Common.{◌≡◌, ◌↔◌, ℕ, true, false, ◌+◌, ◌<◌, ◌≤◌, refl, sym, ◌∙◌, ap, subst, arith, inl, inr, List, [], ◌∷◌, fold, Option, Some, None, IsSome, if◌then◌else◌}
 use Rattle.std.proofs.lemmas.Bool.{cases_Bool, cases_lt, both_ways}
 use Rattle.vm_areas.specs.declared.runs.Area.{Area}
 use Rattle.vm_areas.specs.declared.runs.Rights.{Rights}
 use Rattle.vm_areas.specs.PageMap.{end_of, within, rights_at, IsMaximal}
 use Rattle.vm_areas.specs.Ranges.{EachPage, IsMappedAt}
 use Rattle.vm_areas.specs.Steps.{step_over}
-use Rattle.vm_areas.proofs.Maximal.{within-true, within-before, within-behind, within-parts, rights_at-head, rights_at-tail, rights_at-before, StartsAt, StartsAt-behind}
+use Rattle.vm_areas.proofs.Maximal.{within-true, within-before, within-behind, within-parts, rights_at-head, rights_at-tail, StartsAt, StartsAt-behind}
 
 step_in : (at : ℕ) (area : Area) → within area.first area.pages at ≡ true → step_over at area ≡ end_of area
 step_in at area e = ap (λ b. if b then end_of area else at) e
@@ -41,11 +41,11 @@ past : (area : Area) (at page : ℕ) → at ≤ page → within area.first area.
 past area at page from out =
     elim (cases_Bool (within area.first area.pages at)) [
       | inl e ↦
-        (let parts = within-parts area.first area.pages at e in
-        elim (cases_lt page (end_of area)) [
-          | inl inside ↦ absurd (both_ways (within area.first area.pages page) out (within-true area.first area.pages page (omega arith) inside))
-          | inr behind ↦ omega (arith, step_in at area e)
-        ])
+          (let parts = within-parts area.first area.pages at e in
+          elim (cases_lt page (end_of area)) [
+            | inl inside ↦ absurd (both_ways (within area.first area.pages page) out (within-true area.first area.pages page (omega arith) inside))
+            | inr behind ↦ omega (arith, step_in at area e)
+          ])
       | inr e ↦ omega (arith, step_out at area e)
     ]
 
@@ -73,9 +73,9 @@ free_at (area ∷ areas) at maximal =
     let up = reached_up areas (step_over at area) in
     let out : within area.first area.pages page ≡ false = elim (cases_lt at area.first) [
       | inl before ↦
-        (let stays = step_out at area (within-before area.first area.pages at before) in
-        let is : page ≡ at = ap (λ n. fold step_over n areas) stays ∙ reached_before areas (end_of area) at maximal.3 (StartsAt-behind area areas maximal.2) (omega arith) in
-        within-before area.first area.pages page (omega (arith, is)))
+          (let stays = step_out at area (within-before area.first area.pages at before) in
+          let is : page ≡ at = ap (λ n. fold step_over n areas) stays ∙ reached_before areas (end_of area) at maximal.3 (StartsAt-behind area areas maximal.2) (omega arith) in
+          within-before area.first area.pages page (omega (arith, is)))
       | inr from ↦ elim (cases_lt at (end_of area)) [
         | inl inside ↦ within-behind area.first area.pages page (omega (arith, up, step_in at area (within-true area.first area.pages at from inside)))
         | inr behind ↦ within-behind area.first area.pages page (omega (arith, up, step_up at area))
@@ -88,9 +88,10 @@ some_none None there none = cc
 some_none (Some r) there none = cc
 
 pub reached_when_mapped : (areas : List Area) (first pages : ℕ) → IsMaximal areas → (first + pages ≤ fold step_over first areas) ↔ EachPage first pages (IsMappedAt areas)
-reached_when_mapped areas first pages maximal =
-    (λ reaches page from below. mapped_before areas first page from (omega arith),
-     λ mapped. elim (cases_lt (fold step_over first areas) (first + pages)) [
-       | inl short ↦ absurd (some_none (rights_at areas (fold step_over first areas)) (mapped (fold step_over first areas) (reached_up areas first) short) (free_at areas first maximal))
-       | inr reaches ↦ reaches
-     ])
+reached_when_mapped areas first pages maximal = (
+  λ reaches page from below. mapped_before areas first page from (omega arith),
+  λ mapped. elim (cases_lt (fold step_over first areas) (first + pages)) [
+    | inl short ↦ absurd (some_none (rights_at areas (fold step_over first areas)) (mapped (fold step_over first areas) (reached_up areas first) short) (free_at areas first maximal))
+    | inr reaches ↦ reaches
+  ],
+)

@@ -1,5 +1,5 @@
 -- The highest place between areas is the highest free range.
-use Rattle.std.proofs.Common.{◌≡◌, ℕ, Bool, true, false, ◌+◌, ◌-◌, ◌<◌, ◌≤◌, min, max, refl, sym, ◌∙◌, ap, subst, arith, inl, inr, List, [], ◌∷◌, Option, Some, None, if◌then◌else◌, nat_le, leb-true, leb-false, le_refl, length, drop, drop-cons, get_or, add-one}
+use Rattle.std.proofs.Common.{◌≡◌, ℕ, Bool, false, ◌+◌, ◌-◌, ◌<◌, ◌≤◌, min, max, refl, sym, ◌∙◌, ap, subst, arith, inl, inr, List, [], ◌∷◌, Option, Some, None, if◌then◌else◌, nat_le, leb-true, leb-false, le_refl, length, drop, drop-cons, get_or, add-one}
 use Rattle.std.specs.Option.{option_or, MatchOption}
 use Rattle.std.proofs.lemmas.Bool.{cases_Bool, cases_lt}
 use Rattle.vm_areas.specs.declared.runs.Area.{Area}
@@ -54,10 +54,10 @@ before_or_behind : (area : Area) (areas : List Area) (pages first : ℕ) → 0 <
 before_or_behind area areas pages first some some_area free before =
     elim (cases_lt area.first (first + pages)) [
       | inl meets ↦
-        (let page = max first area.first in
-        let held = rights_at-head area areas page (within-true area.first area.pages page (omega arith) (omega arith)) in
-        let none = free page (omega arith) (omega arith) in
-        cc)
+          (let page = max first area.first in
+          let held = rights_at-head area areas page (within-true area.first area.pages page (omega arith) (omega arith)) in
+          let none = free page (omega arith) (omega arith) in
+          cc)
       | inr apart ↦ apart
     ]
 

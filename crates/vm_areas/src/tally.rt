@@ -76,12 +76,7 @@ fn count_range(tally: Tally, first: u64, pages: u64, rights: Option<Rights>) -> 
 }
 
 // How many areas there are after a change of the rights of a range.
-pub(crate) fn painted_count(
-    areas: &[Area],
-    first: u64,
-    pages: u64,
-    rights: Option<Rights>,
-) -> usize
+pub(crate) fn painted_count(areas: &[Area], first: u64, pages: u64, rights: Option<Rights>) -> usize
     requires end { first + pages ≤ 2 ^ 53 }
     requires few { length areas.now ≤ 1024 }
     ensures { result ≡ length (painted areas.now first pages rights) }

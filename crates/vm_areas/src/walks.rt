@@ -45,9 +45,7 @@ pub(crate) fn any_meets(areas: &[Area], from: u64, to: u64) -> bool
 pub(crate) fn any_meets_code(areas: &[Area], from: u64, to: u64) -> bool
     ensures { result ≡ list_any (meets_code from to) areas.now }
 {
-    areas
-        .iter()
-        .any(|area| area.clipped(from, to).pages > 0 && area.rights.execute)
+    areas.iter().any(|area| area.clipped(from, to).pages > 0 && area.rights.execute)
 }
 
 // The highest place of so many pages from `from` on and below `to`.

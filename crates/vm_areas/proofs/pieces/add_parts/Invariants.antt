@@ -6,5 +6,5 @@ abbrev pub invariant-loop-area : goal.invariant-loop-area
 invariant-loop-area l = record {
   items : l.row.items ≡ fold (with_part l.from l.to) l.initial.row.items (take l.area-index l.areas);
   len : vec_len l.row ≤ vec_len l.initial.row + l.area-index;
-  capacity : vec_capacity l.row ≡ vec_capacity l.initial.row
+  capacity : vec_capacity l.row ≡ vec_capacity l.initial.row;
 }

@@ -1,4 +1,4 @@
-use Rattle.std.proofs.Common.{◌∙◌, ap, fold, ◌+◌, ◌^◌, []}
+use Rattle.std.proofs.Common.{◌∙◌, ap, fold, ◌+◌, ◌^◌}
 use Rattle.vm_areas.specs.Painted.{range_of}
 use Rattle.vm_areas.specs.Steps.{with_part, with_piece}
 use Rattle.vm_areas.proofs.Joining.{painted-fold}

@@ -1,7 +1,6 @@
-use Rattle.std.proofs.Common.{◌≡◌, ◌+◌, ◌∙◌, sym, ap, length, Some}
+use Rattle.std.proofs.Common.{◌+◌, ◌∙◌, sym, ap, Some}
 use Rattle.vm_areas.specs.declared.tally.Tally.{Tally}
 use Rattle.vm_areas.specs.Painted.{grown}
-use Rattle.vm_areas.specs.Steps.{tally_of}
 use Rattle.vm_areas.proofs.Counting.{tally-touching, tally-apart, tally-first}
 use Rattle.vm_areas.proofs.tally.count_piece.Goals as goal
 use Rattle.vm_areas.proofs.tally.count_piece.Goals.{in_default-via-in-Some+else-touches, in_default-via-in_default}

@@ -1,4 +1,4 @@
-use Rattle.std.proofs.Common.{◌∙◌, ap, fold, length, refl, ◌+◌, []}
+use Rattle.std.proofs.Common.{◌∙◌, ap, fold, length, refl, []}
 use Rattle.vm_areas.specs.declared.tally.Tally.{Tally}
 use Rattle.vm_areas.specs.Painted.{range_of}
 use Rattle.vm_areas.specs.Steps.{with_part, with_piece}

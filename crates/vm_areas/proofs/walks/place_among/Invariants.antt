@@ -6,5 +6,5 @@ use Rattle.vm_areas.proofs.walks.place_among.Given as goal
 abbrev pub invariant-loop-area : goal.invariant-loop-area
 invariant-loop-area l = record {
   from : l.from ≤ 2 ^ 53;
-  place : option_or (highest_place l.pages l.from (drop l.area-index l.areas)) l.best ≡ highest_place l.pages 16 l.areas
+  place : option_or (highest_place l.pages l.from (drop l.area-index l.areas)) l.best ≡ highest_place l.pages 16 l.areas;
 }

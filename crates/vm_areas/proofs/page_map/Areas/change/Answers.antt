@@ -1,6 +1,6 @@
-use Rattle.std.proofs.Common.{◌≡◌, ◌≤◌, List, length, ap, sym, subst, ◌∙◌, arith, vec_capacity, vec_len}
+use Rattle.std.proofs.Common.{◌≡◌, List, ap, sym, subst, ◌∙◌, arith, vec_capacity, vec_len}
 use Rattle.vm_areas.specs.declared.runs.Area.{Area}
-use Rattle.vm_areas.specs.PageMap.{IsAreas, IsMaximal}
+use Rattle.vm_areas.specs.PageMap.{IsMaximal}
 use Rattle.vm_areas.specs.Painted.{painted}
 use Rattle.vm_areas.proofs.Painting.{painted-is}
 use Rattle.vm_areas.proofs.page_map.Areas.change.Goals as goal
