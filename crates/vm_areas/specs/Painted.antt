@@ -1,4 +1,4 @@
--- The areas after a change of the rights of a range of pages.
+-- The areas after a change of the rights of a range of pages (mmap(2), mprotect(2), munmap(2)).
 use Rattle.std.specs.Prelude.{◌≡◌, ℕ, Bool, ◌+◌, ◌-◌, ◌^◌, ◌≤◌, ◌&&◌, ◌==◌, min, max, if◌then◌else◌, List, [], ◌∷◌, ◌++◌, map, Option, Some, None}
 use Rattle.vm_areas.specs.declared.runs.Area.{Area}
 use Rattle.vm_areas.specs.declared.runs.Rights.{Rights}

@@ -18,7 +18,7 @@ pub(crate) struct Tally {
 
 // Counts one more piece behind the areas.
 fn count_piece(tally: Tally, piece: Area) -> Tally
-    requires count { tally.count < 2 ^ 32 }
+    requires count { tally.count < usize.MAX }
     requires end { 0 < piece.pages → end_of piece ≤ 2 ^ 53 }
     ensures tally { (areas : List AnArea) → tally ≡ tally_of areas → result ≡ tally_of (with_piece areas piece) }
     ensures count { result.count ≤ tally.count + 1 }
@@ -45,7 +45,7 @@ fn count_piece(tally: Tally, piece: Area) -> Tally
 // Counts the parts of the areas from page `from` on and below page `to`.
 fn count_parts(mut tally: Tally, areas: &[Area], from: u64, to: u64) -> Tally
     requires limit { to ≤ 2 ^ 53 }
-    requires count { tally.count + length areas.now < 2 ^ 32 }
+    requires count { tally.count + length areas.now < usize.MAX }
     ensures tally { (row : List AnArea) → tally ≡ tally_of row → result ≡ tally_of (fold (with_part from to) row areas.now) }
     ensures count { result.count ≤ tally.count + length areas.now }
 {
@@ -58,7 +58,7 @@ fn count_parts(mut tally: Tally, areas: &[Area], from: u64, to: u64) -> Tally
 // Counts a range with these rights.
 fn count_range(tally: Tally, first: u64, pages: u64, rights: Option<Rights>) -> Tally
     requires end { first + pages ≤ 2 ^ 53 }
-    requires count { tally.count < 2 ^ 32 }
+    requires count { tally.count < usize.MAX }
     ensures tally { (row : List AnArea) → tally ≡ tally_of row → result ≡ tally_of (fold with_piece row (range_of first pages rights)) }
     ensures count { result.count ≤ tally.count + 1 }
 {
