@@ -41,7 +41,7 @@ rights_at-before (area ∷ areas) start page maximal starts before =
     rights_at-tail area areas page (within-before area.first area.pages page (omega arith))
     ∙ rights_at-before areas (end_of area) page maximal.3 (StartsAt-behind area areas maximal.2) (omega arith)
 
--- nothing is mapped past the last page
+-- nothing is mapped from page 2^53 on
 pub rights_at-past : (areas : List Area) (page : ℕ) → IsMaximal areas → 2 ^ 53 ≤ page → rights_at areas page ≡ None
 rights_at-past [] page maximal past = refl
 rights_at-past (area ∷ areas) page maximal past =
@@ -61,7 +61,7 @@ rights_at-end area (next ∷ areas) maximal there =
           maximal.2.1 at same
     ]
 
--- each area ends at or before the last page
+-- each area ends at or below page 2^53
 pub ends_below : (areas : List Area) → IsMaximal areas → All (λ area. end_of area ≤ 2 ^ 53) areas
 ends_below [] maximal k d lt = absurd (omega arith)
 ends_below (area ∷ areas) maximal zero d lt = maximal.1

@@ -6,7 +6,7 @@ ghost use Rattle.vm_areas.specs.PageMap.{end_of};
 ghost use Rattle.vm_areas.specs.Painted.{painted, range_of};
 ghost use Rattle.vm_areas.specs.Steps.{tally_of, with_part, with_piece};
 
-use crate::page_map::PAGES;
+use crate::page_map::RANGES_END;
 use crate::runs::{Area, Rights};
 
 // How many areas there are, and the last of them.
@@ -87,6 +87,6 @@ pub(crate) fn painted_count(areas: &[Area], first: u64, pages: u64, rights: Opti
     };
     let tally = count_parts(tally, areas, 0, first);
     let tally = count_range(tally, first, pages, rights);
-    let tally = count_parts(tally, areas, first + pages, PAGES);
+    let tally = count_parts(tally, areas, first + pages, RANGES_END);
     tally.count
 }

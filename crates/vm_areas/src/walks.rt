@@ -50,7 +50,6 @@ pub(crate) fn any_meets_code(areas: &[Area], from: u64, to: u64) -> bool
 
 // The highest place of so many pages from `from` on and below `to`.
 fn place_in(pages: u64, from: u64, to: u64) -> Option<u64>
-    requires { from ≤ 2 ^ 53 }
     ensures { result ≡ place_between pages from to }
 {
     if to >= from && to - from >= pages {

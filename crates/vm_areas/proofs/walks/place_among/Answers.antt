@@ -1,4 +1,4 @@
-use Rattle.std.proofs.Common.{◌≡◌, ◌+◌, ◌∙◌, ap, arith, max, min, drop, get_or, false}
+use Rattle.std.proofs.Common.{◌≡◌, ◌+◌, ◌∙◌, ap, max, min, drop, get_or, false}
 use Rattle.std.specs.Option.{option_or}
 use Rattle.vm_areas.specs.declared.runs.Area.{Area}
 use Rattle.vm_areas.specs.PageMap.{end_of}
@@ -17,7 +17,5 @@ loop-area-preserved c =
     let froms : c.max-from.result ≡ max from (end_of (get_or areas i none)) = c.max-from.ensures ∙ ap (λ n. max from n) c.end.ensures in
     let bests : c.or-best.result ≡ option_or (place_between pages from (min (get_or areas i none).first 0x7fff00000)) best =
     c.or-best.ensures ∙ ap (λ o. option_or o best) (c.place_in.ensures ∙ ap (λ n. place_between pages from n) c.min.ensures) in
-    record {
-      from = omega (arith, froms, c.requires i none c.loop-area-test.true, c.loop-area.invariant.from);
-      place = (λ j. option_or (highest_place pages (froms j) (drop (i + 1) areas)) (bests j)) ∙ walk_step pages from i areas best (highest_place pages 16 areas) none c.loop-area-test.true c.loop-area.invariant.place;
-    }
+    (λ j. option_or (highest_place pages (froms j) (drop (i + 1) areas)) (bests j))
+    ∙ walk_step pages from i areas best (highest_place pages 16 areas) none c.loop-area-test.true c.loop-area.invariant
