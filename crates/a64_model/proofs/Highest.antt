@@ -13,6 +13,6 @@ highest_set_bit-le n h = below (leading_length 32 n (omega arith))
     below : ((m : ℕ) × (leading_zeros w32 n + m ≡ 32) × (n < 2 ^ m) × (2 ^ m ≤ 2 * n + 1)) → highest_set_bit n ≤ 6
     below (m, sum, _, to) =
         elim (cases_lt m 8) [
-          inl less ↦ omega arith
-        | inr more ↦ let large : 2 ^ 8 ≤ 2 ^ m = pow_mono more in absurd (omega arith)
+          | inl less ↦ omega arith
+          | inr more ↦ let large : 2 ^ 8 ≤ 2 ^ m = pow_mono more in absurd (omega arith)
         ]

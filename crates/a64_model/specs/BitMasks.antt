@@ -26,7 +26,9 @@ may_have X n = true
 
 -- the element has at least two bits, and not all of them are ones
 abbrev pub is_pattern : Width → ℕ → ℕ → Bool
-is_pattern w n imms = may_have w n && nat_le 1 (element_log n imms) && not (imms % element_size n imms == element_size n imms - 1)
+is_pattern w n imms =
+    let levels = element_size n imms - 1 in
+    may_have w n && nat_le 1 (element_log n imms) && not (imms % element_size n imms == levels)
 
 -- ROR of a number of `count` bits: two copies in a row, moved right
 abbrev pub rotated : ℕ → ℕ → ℕ → ℕ

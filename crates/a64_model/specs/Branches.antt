@@ -8,20 +8,40 @@ use Rattle.a64_model.specs.declared.operands.BranchKind.{BranchKind}
 
 -- Unconditional branch (immediate): B, BL. imm26 counts instructions, signed
 abbrev pub branch : Bool → ℕ → Option Instr
-branch link word = Some (instr.Branch (record { link = link; offset = sign_extended (bits word 25 0 * 4) 28 }))
+branch link word =
+    Some (instr.Branch (record {
+      link = link;
+      offset = sign_extended (bits word 25 0 * 4) 28;
+    }))
 
 -- Conditional branch (immediate): B.cond. imm19 23 to 5 counts instructions, signed; cond 3 to 0
 abbrev pub branch_conditional : ℕ → Option Instr
-branch_conditional word = Some (instr.BranchConditional (record { condition = condition (bits word 3 0); offset = sign_extended (bits word 23 5 * 4) 21 }))
+branch_conditional word =
+    Some (instr.BranchConditional (record {
+      condition = condition (bits word 3 0);
+      offset = sign_extended (bits word 23 5 * 4) 21;
+    }))
 
 -- Compare and branch (immediate): CBZ, CBNZ. imm19 23 to 5 counts instructions, signed
 abbrev pub compare_branch : Bool → ℕ → Option Instr
-compare_branch nonzero word = Some (instr.CompareBranch (record { width = width word; nonzero = nonzero; offset = sign_extended (bits word 23 5 * 4) 21; rt = reg word 0 }))
+compare_branch nonzero word =
+    Some (instr.CompareBranch (record {
+      width = width word;
+      nonzero = nonzero;
+      offset = sign_extended (bits word 23 5 * 4) 21;
+      rt = reg word 0;
+    }))
 
 -- Test and branch (immediate): TBZ, TBNZ. The bit number is bit 31 and then 23 to 19; imm14 18 to 5 counts
 -- instructions, signed
 abbrev pub test_branch : Bool → ℕ → Option Instr
-test_branch set word = Some (instr.TestBranch (record { set = set; bit_number = bits word 31 31 * 32 + bits word 23 19; offset = sign_extended (bits word 18 5 * 4) 16; rt = reg word 0 }))
+test_branch set word =
+    Some (instr.TestBranch (record {
+      set = set;
+      bit_number = bits word 31 31 * 32 + bits word 23 19;
+      offset = sign_extended (bits word 18 5 * 4) 16;
+      rt = reg word 0;
+    }))
 
 -- Unconditional branch (register): BR, BLR, RET
 abbrev pub branch_register : BranchKind → ℕ → Option Instr

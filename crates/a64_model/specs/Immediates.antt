@@ -15,45 +15,95 @@ use Rattle.a64_model.specs.declared.operands.BitfieldOp.TheVariants as bitfields
 abbrev pub pc_relative : Bool → ℕ → Option Instr
 pc_relative page word =
     let imm = bits word 23 5 * 4 + bits word 30 29 in
-    Some (instr.PcRelative (record { page = page; offset = if page then sign_extended (imm * 4096) 33 else sign_extended imm 21; rd = reg word 0 }))
+    Some (instr.PcRelative (record {
+      page = page;
+      offset = if page then sign_extended (imm * 4096) 33 else sign_extended imm 21;
+      rd = reg word 0;
+    }))
 
 -- Add/subtract (immediate): 30 subtracts, 29 sets the flags, 22 shifts by 12, imm12 is bits 21 to 10
 abbrev pub add_immediate : ℕ → Option Instr
 add_immediate word =
-    Some (instr.AddImmediate (record { width = width word; op = add_op word; set_flags = bit word 29; immediate = if bit word 22 then bits word 21 10 * 4096 else bits word 21 10; rn = reg word 5; rd = reg word 0 }))
+    Some (instr.AddImmediate (record {
+      width = width word;
+      op = add_op word;
+      set_flags = bit word 29;
+      immediate = if bit word 22 then bits word 21 10 * 4096 else bits word 21 10;
+      rn = reg word 5;
+      rd = reg word 0;
+    }))
 
 -- Logical (immediate): opc 30 to 29, N 22, immr 21 to 16, imms 15 to 10, which have to be those of a pattern
 abbrev pub logical_immediate : ℕ → Option Instr
 logical_immediate word =
-    if is_pattern (width word) (bits word 22 22) (bits word 15 10)
-    then Some (instr.LogicalImmediate (record { width = width word; op = logical_op (bits word 30 29); immediate = low (width word) (pattern (element_size (bits word 22 22) (bits word 15 10)) (bits word 21 16) (bits word 15 10)); rn = reg word 5; rd = reg word 0 }))
+    let n = bits word 22 22 in
+    let immr = bits word 21 16 in
+    let imms = bits word 15 10 in
+    if is_pattern (width word) n imms
+    then Some (instr.LogicalImmediate (record {
+      width = width word;
+      op = logical_op (bits word 30 29);
+      immediate = low (width word) (pattern (element_size n imms) immr imms);
+      rn = reg word 5;
+      rd = reg word 0;
+    }))
     else None
 
 -- opc of the wide moves: 1 has no row
 abbrev pub move_wide_op : ℕ → Option MoveWideOp
-move_wide_op opc = if opc == 0 then Some moves.Not else (if opc == 2 then Some moves.Zero else (if opc == 3 then Some moves.Keep else None))
+move_wide_op opc =
+    if opc == 0 then Some moves.Not else (
+    if opc == 2 then Some moves.Zero else (
+    if opc == 3 then Some moves.Keep else None))
 
 -- Move wide (immediate): opc 30 to 29, hw 22 to 21, which has to be below 2 in 32 bits, imm16 20 to 5
 abbrev pub move_wide : ℕ → Option Instr
 move_wide word =
-    if nat_lt (bits word 22 21 * 16) (width_bits (width word))
-    then option_map (λ op. instr.MoveWide (record { width = width word; op = op; hw = bits word 22 21; imm16 = bits word 20 5; rd = reg word 0 })) (move_wide_op (bits word 30 29))
+    let hw = bits word 22 21 in
+    if nat_lt (hw * 16) (width_bits (width word))
+    then option_map (λ op. instr.MoveWide (record {
+      width = width word;
+      op = op;
+      hw = hw;
+      imm16 = bits word 20 5;
+      rd = reg word 0;
+    })) (move_wide_op (bits word 30 29))
     else None
 
 -- opc of the bitfield moves: 3 has no row
 abbrev pub bitfield_op : ℕ → Option BitfieldOp
-bitfield_op opc = if opc == 0 then Some bitfields.Signed else (if opc == 1 then Some bitfields.Kept else (if opc == 2 then Some bitfields.Unsigned else None))
+bitfield_op opc =
+    if opc == 0 then Some bitfields.Signed else (
+    if opc == 1 then Some bitfields.Kept else (
+    if opc == 2 then Some bitfields.Unsigned else None))
 
 -- Bitfield: opc 30 to 29; N 22 has to be sf, and immr 21 to 16 and imms 15 to 10 below the width
 abbrev pub bitfield : ℕ → Option Instr
 bitfield word =
-    if (bits word 22 22 == bits word 31 31) && nat_lt (bits word 21 16) (width_bits (width word)) && nat_lt (bits word 15 10) (width_bits (width word))
-    then option_map (λ op. instr.Bitfield (record { width = width word; op = op; immr = bits word 21 16; imms = bits word 15 10; rn = reg word 5; rd = reg word 0 })) (bitfield_op (bits word 30 29))
+    let count = width_bits (width word) in
+    let immr = bits word 21 16 in
+    let imms = bits word 15 10 in
+    if (bits word 22 22 == bits word 31 31) && nat_lt immr count && nat_lt imms count
+    then option_map (λ op. instr.Bitfield (record {
+      width = width word;
+      op = op;
+      immr = immr;
+      imms = imms;
+      rn = reg word 5;
+      rd = reg word 0;
+    })) (bitfield_op (bits word 30 29))
     else None
 
 -- Extract: N 22 has to be sf, and imms 15 to 10 below the width
 abbrev pub extract : ℕ → Option Instr
 extract word =
-    if (bits word 22 22 == bits word 31 31) && nat_lt (bits word 15 10) (width_bits (width word))
-    then Some (instr.Extract (record { width = width word; lowest = bits word 15 10; rm = reg word 16; rn = reg word 5; rd = reg word 0 }))
+    let imms = bits word 15 10 in
+    if (bits word 22 22 == bits word 31 31) && nat_lt imms (width_bits (width word))
+    then Some (instr.Extract (record {
+      width = width word;
+      lowest = imms;
+      rm = reg word 16;
+      rn = reg word 5;
+      rd = reg word 0;
+    }))
     else None

@@ -40,7 +40,9 @@ load_signed_32 _ = None
 -- what opc does at a size, in a form that has prefetches or has not
 abbrev pub transfer : Size → ℕ → Bool → Option Transfer
 transfer s opc prefetches =
-    if opc == 0 then Some transfers.Store else (if opc == 1 then Some transfers.Load else (if opc == 2 then load_signed_64 s prefetches else load_signed_32 s))
+    if opc == 0 then Some transfers.Store else (
+    if opc == 1 then Some transfers.Load else (
+    if opc == 2 then load_signed_64 s prefetches else load_signed_32 s))
 
 -- where the base is written back it is the stack pointer or no register that is moved
 abbrev pub may_write_back : Indexing → Reg → Reg → Bool
@@ -53,37 +55,69 @@ may_write_back _ rn rt = is_31 rn || not (is_same rn rt)
 abbrev pub load_store_unsigned : ℕ → Option Instr
 load_store_unsigned word =
     let s = size (bits word 31 30) in
-    option_map (λ t. instr.LoadStoreUnsigned (record { size = s; transfer = t; offset = bits word 21 10 * size_bytes s; rn = reg word 5; rt = reg word 0 })) (transfer s (bits word 23 22) true)
+    option_map (λ t. instr.LoadStoreUnsigned (record {
+      size = s;
+      transfer = t;
+      offset = bits word 21 10 * size_bytes s;
+      rn = reg word 5;
+      rt = reg word 0;
+    })) (transfer s (bits word 23 22) true)
 
--- Load/store register (unscaled immediate), (immediate post-indexed) and (immediate pre-indexed): imm9 20 to 12 counts
--- bytes, signed
+-- Load/store register (unscaled immediate), (immediate post-indexed) and (immediate pre-indexed): imm9 20 to 12
+-- counts bytes, signed
 abbrev pub load_store_indexed : Indexing → ℕ → Option Instr
 load_store_indexed indexing word =
     let s = size (bits word 31 30) in
     if may_write_back indexing (reg word 5) (reg word 0)
-    then option_map (λ t. instr.LoadStoreIndexed (record { size = s; transfer = t; indexing = indexing; offset = sign_extended (bits word 20 12) 9; rn = reg word 5; rt = reg word 0 })) (transfer s (bits word 23 22) (is_offset indexing))
+    then option_map (λ t. instr.LoadStoreIndexed (record {
+      size = s;
+      transfer = t;
+      indexing = indexing;
+      offset = sign_extended (bits word 20 12) 9;
+      rn = reg word 5;
+      rt = reg word 0;
+    })) (transfer s (bits word 23 22) (is_offset indexing))
     else None
 
--- Load/store register (register offset): option 15 to 13 has to extend 32 or 64 bits, that is, have its bit 1, which is
--- bit 14; bit 12 shifts by the size
+-- Load/store register (register offset): option 15 to 13 has to extend 32 or 64 bits, so it is 2, 3, 6 or 7, those
+-- with bit 14; bit 12 shifts by the size
 abbrev pub load_store_register : ℕ → Option Instr
 load_store_register word =
     let s = size (bits word 31 30) in
     if bit word 14
-    then option_map (λ t. instr.LoadStoreRegister (record { size = s; transfer = t; extend = extend (bits word 15 13); amount = if bit word 12 then size_log s else 0; rm = reg word 16; rn = reg word 5; rt = reg word 0 })) (transfer s (bits word 23 22) true)
+    then option_map (λ t. instr.LoadStoreRegister (record {
+      size = s;
+      transfer = t;
+      extend = extend (bits word 15 13);
+      amount = if bit word 12 then size_log s else 0;
+      rm = reg word 16;
+      rn = reg word 5;
+      rt = reg word 0;
+    })) (transfer s (bits word 23 22) true)
     else None
 
 -- opc 31 to 30 of a literal
 abbrev pub literal_kind : ℕ → LiteralKind
-literal_kind opc = if opc == 0 then literals.Word else (if opc == 1 then literals.Double else (if opc == 2 then literals.SignedWord else literals.Prefetch))
+literal_kind opc =
+    if opc == 0 then literals.Word else (
+    if opc == 1 then literals.Double else (
+    if opc == 2 then literals.SignedWord else literals.Prefetch))
 
 -- Load register (literal): imm19 23 to 5 counts instructions, signed
 abbrev pub load_literal : ℕ → Option Instr
-load_literal word = Some (instr.LoadLiteral (record { kind = literal_kind (bits word 31 30); offset = sign_extended (bits word 23 5 * 4) 21; rt = reg word 0 }))
+load_literal word =
+    Some (instr.LoadLiteral (record {
+      kind = literal_kind (bits word 31 30);
+      offset = sign_extended (bits word 23 5 * 4) 21;
+      rt = reg word 0;
+    }))
 
 -- opc 31 to 30 of a pair: 0 W, 1 signed W and load only, 2 X
 abbrev pub pair_kind : ℕ → Bool → Option PairKind
-pair_kind opc load = if opc == 0 then Some pairs.Word else (if opc == 2 then Some pairs.Double else (if opc == 1 && load then Some pairs.SignedWord else None))
+pair_kind opc load =
+    if opc == 0 then Some pairs.Word else (
+    if opc == 2 then Some pairs.Double else (
+    if opc == 1 && load then Some pairs.SignedWord else None))
 
 -- imm7 counts registers, signed
 abbrev pub pair_offset : PairKind → ℕ → ℕ
@@ -97,8 +131,20 @@ may_pair load rt rt2 = not (load && is_same rt rt2)
 -- Load/store register pair (post-indexed), (offset) and (pre-indexed): load 22, imm7 21 to 15
 abbrev pub load_store_pair : Indexing → ℕ → Option Instr
 load_store_pair indexing word =
-    if may_write_back indexing (reg word 5) (reg word 0) && may_write_back indexing (reg word 5) (reg word 10) && may_pair (bit word 22) (reg word 0) (reg word 10)
-    then option_map (λ kind. instr.LoadStorePair (record { kind = kind; load = bit word 22; indexing = indexing; offset = pair_offset kind (bits word 21 15); rt2 = reg word 10; rn = reg word 5; rt = reg word 0 })) (pair_kind (bits word 31 30) (bit word 22))
+    let rn = reg word 5 in
+    let rt = reg word 0 in
+    let rt2 = reg word 10 in
+    let load = bit word 22 in
+    if may_write_back indexing rn rt && may_write_back indexing rn rt2 && may_pair load rt rt2
+    then option_map (λ kind. instr.LoadStorePair (record {
+      kind = kind;
+      load = load;
+      indexing = indexing;
+      offset = pair_offset kind (bits word 21 15);
+      rt2 = rt2;
+      rn = rn;
+      rt = rt;
+    })) (pair_kind (bits word 31 30) load)
     else None
 
 -- the status goes to a register that is neither stored nor the base
@@ -109,25 +155,58 @@ may_take_status rs rt rn = not (is_same rs rt) && (is_31 rn || not (is_same rs r
 abbrev pub store_exclusive : ℕ → Option Instr
 store_exclusive word =
     if may_take_status (reg word 16) (reg word 0) (reg word 5)
-    then Some (instr.StoreExclusive (record { size = size (bits word 31 30); rs = reg word 16; rn = reg word 5; rt = reg word 0 }))
+    then Some (instr.StoreExclusive (record {
+      size = size (bits word 31 30);
+      rs = reg word 16;
+      rn = reg word 5;
+      rt = reg word 0;
+    }))
     else None
 
 -- Load/store exclusive register: LDXR, LDAXR
 abbrev pub load_exclusive : ℕ → Option Instr
-load_exclusive word = Some (instr.LoadExclusive (record { size = size (bits word 31 30); rn = reg word 5; rt = reg word 0 }))
+load_exclusive word =
+    Some (instr.LoadExclusive (record {
+      size = size (bits word 31 30);
+      rn = reg word 5;
+      rt = reg word 0;
+    }))
 
 -- Load/store ordered: STLR
 abbrev pub store_ordered : ℕ → Option Instr
-store_ordered word = Some (instr.StoreOrdered (record { size = size (bits word 31 30); rn = reg word 5; rt = reg word 0 }))
+store_ordered word =
+    Some (instr.StoreOrdered (record {
+      size = size (bits word 31 30);
+      rn = reg word 5;
+      rt = reg word 0;
+    }))
 
 -- Load/store ordered: LDAR
 abbrev pub load_ordered : ℕ → Option Instr
-load_ordered word = Some (instr.LoadOrdered (record { size = size (bits word 31 30); rn = reg word 5; rt = reg word 0 }))
+load_ordered word =
+    Some (instr.LoadOrdered (record {
+      size = size (bits word 31 30);
+      rn = reg word 5;
+      rt = reg word 0;
+    }))
 
 -- Compare and swap: CAS, with acquire (22) and release (15)
 abbrev pub compare_swap : ℕ → Option Instr
-compare_swap word = Some (instr.CompareSwap (record { size = size (bits word 31 30); rs = reg word 16; rn = reg word 5; rt = reg word 0 }))
+compare_swap word =
+    Some (instr.CompareSwap (record {
+      size = size (bits word 31 30);
+      rs = reg word 16;
+      rn = reg word 5;
+      rt = reg word 0;
+    }))
 
 -- Atomic memory operations: LDADD, LDCLR, LDEOR, LDSET, SWP, with acquire (23) and release (22)
 abbrev pub atomic : AtomicOp → ℕ → Option Instr
-atomic op word = Some (instr.Atomic (record { size = size (bits word 31 30); op = op; rs = reg word 16; rn = reg word 5; rt = reg word 0 }))
+atomic op word =
+    Some (instr.Atomic (record {
+      size = size (bits word 31 30);
+      op = op;
+      rs = reg word 16;
+      rn = reg word 5;
+      rt = reg word 0;
+    }))

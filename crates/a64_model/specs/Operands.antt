@@ -88,7 +88,10 @@ condition n =
 
 -- shift: DecodeShift
 abbrev pub shift : ℕ → ShiftKind
-shift n = if n == 0 then shifts.Left else (if n == 1 then shifts.LogicalRight else (if n == 2 then shifts.ArithmeticRight else shifts.RotateRight))
+shift n =
+    if n == 0 then shifts.Left else (
+    if n == 1 then shifts.LogicalRight else (
+    if n == 2 then shifts.ArithmeticRight else shifts.RotateRight))
 
 -- option: DecodeRegExtend
 abbrev pub extend : ℕ → Extend
@@ -107,4 +110,7 @@ add_op word = if bit word 30 then Subtract else Add
 
 -- opc of the logical operations
 abbrev pub logical_op : ℕ → LogicalOp
-logical_op opc = if opc == 0 then logical.And else (if opc == 1 then logical.Or else (if opc == 2 then logical.ExclusiveOr else logical.AndSetFlags))
+logical_op opc =
+    if opc == 0 then logical.And else (
+    if opc == 1 then logical.Or else (
+    if opc == 2 then logical.ExclusiveOr else logical.AndSetFlags))

@@ -68,8 +68,10 @@ HasWidths (instr.AddExtended i) = i.amount ≤ 4
 HasWidths (instr.ConditionalCompare i) = HasComparandWidth i.comparand × (i.nzcv < 2 ^ 4)
 HasWidths (instr.LoadStoreUnsigned i) = IsTrue (may_transfer i.size i.transfer true) × (i.offset < 2 ^ 15)
 HasWidths (instr.LoadStoreIndexed i) =
-    IsTrue (may_transfer i.size i.transfer (is_offset i.indexing)) × IsTrue (is_signed i.offset 9) × IsTrue (may_write_back i.indexing i.rn i.rt)
-HasWidths (instr.LoadStoreRegister i) = IsTrue (may_transfer i.size i.transfer true) × IsTrue (is_wide_extend i.extend) × (i.amount ≤ 3)
+    IsTrue (may_transfer i.size i.transfer (is_offset i.indexing)) × IsTrue (is_signed i.offset 9)
+    × IsTrue (may_write_back i.indexing i.rn i.rt)
+HasWidths (instr.LoadStoreRegister i) =
+    IsTrue (may_transfer i.size i.transfer true) × IsTrue (is_wide_extend i.extend) × (i.amount ≤ 3)
 HasWidths (instr.LoadLiteral i) = IsTrue (is_signed i.offset 21)
 HasWidths (instr.LoadStorePair i) =
     IsTrue (is_pair_kind i.kind i.load) × IsTrue (is_signed i.offset 10) × IsTrue (may_write_back i.indexing i.rn i.rt)

@@ -24,11 +24,26 @@ pub struct Fault {
 pub enum Access {
     None,
     /// `mark`: the load also marks the granule for the thread.
-    Load { at: u64, len: u8, mark: bool },
+    Load {
+        at: u64,
+        len: u8,
+        mark: bool,
+    },
     /// The first `len` bytes are stored. `exclusive`: only where the thread's mark stands there.
-    Store { at: u64, len: u8, bytes: [u8; 32], exclusive: bool },
+    Store {
+        at: u64,
+        len: u8,
+        bytes: [u8; 32],
+        exclusive: bool,
+    },
     /// `value` and `expected` are numbers of `len` bytes.
-    Swap { at: u64, len: u8, op: SwapOp, value: u64, expected: u64 },
+    Swap {
+        at: u64,
+        len: u8,
+        op: SwapOp,
+        value: u64,
+        expected: u64,
+    },
     ClearMark,
 }
 

@@ -27,5 +27,9 @@ pub fn sign_extended(n: u64, count: u32) -> u64
     ensures { result ≡ sign_extended n count }
 {
     let size = 1u64 << count;
-    if n < size / 2 { n } else { n + (u64::MAX - size + 1) }
+    if n < size / 2 {
+        n
+    } else {
+        n + (u64::MAX - size + 1)
+    }
 }

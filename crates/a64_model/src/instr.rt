@@ -2,7 +2,11 @@
 //! stored), `rn` the first source or the base, `rm` the second source, `ra` the addend, `rs` the register of an
 //! exclusive or atomic access, `rt2` the second of a pair. Every `offset` is a signed number of bytes modulo 2^64.
 
-use crate::operands::{AddOp, AtomicOp, BitfieldOp, BranchKind, Comparand, Condition, Extend, Indexing, LiteralKind, LogicalOp, MoveWideOp, OneSourceOp, PairKind, Reg, SelectOp, ShiftKind, Size, Transfer, TwoSourceOp, Width};
+use crate::operands::{
+    AddOp, AtomicOp, BitfieldOp, BranchKind, Comparand, Condition, Extend, Indexing, LiteralKind,
+    LogicalOp, MoveWideOp, OneSourceOp, PairKind, Reg, SelectOp, ShiftKind, Size, Transfer,
+    TwoSourceOp, Width,
+};
 
 // Data processing -- immediate
 

@@ -12,10 +12,20 @@ mod immediates;
 mod loads_stores;
 mod operands;
 
-use branches::{branch, branch_conditional, branch_register, compare_branch, read_thread_pointer, test_branch, write_thread_pointer};
-use data_registers::{add_carry, add_extended, add_shifted, conditional_compare_immediate, conditional_compare_register, conditional_select, logical_shifted, multiply_add, multiply_high, multiply_long, one_source, reverse_bytes, two_source};
+use branches::{
+    branch, branch_conditional, branch_register, compare_branch, read_thread_pointer, test_branch,
+    write_thread_pointer,
+};
+use data_registers::{
+    add_carry, add_extended, add_shifted, conditional_compare_immediate,
+    conditional_compare_register, conditional_select, logical_shifted, multiply_add, multiply_high,
+    multiply_long, one_source, reverse_bytes, two_source,
+};
 use immediates::{add_immediate, bitfield, extract, logical_immediate, move_wide, pc_relative};
-use loads_stores::{atomic, compare_swap, load_exclusive, load_literal, load_ordered, load_store_indexed, load_store_pair, load_store_register, load_store_unsigned, store_exclusive, store_ordered};
+use loads_stores::{
+    atomic, compare_swap, load_exclusive, load_literal, load_ordered, load_store_indexed,
+    load_store_pair, load_store_register, load_store_unsigned, store_exclusive, store_ordered,
+};
 
 /// The instruction of a word of this form, or none where the form's condition fails.
 pub fn fields(form: Form, word: u32) -> Option<Instr>

@@ -11,7 +11,9 @@ use crate::rows::{Form, ROWS, Row};
 fn form_among(rows: &[Row], word: u32) -> Option<Form>
     ensures { result ≡ form_among rows.now word }
 {
-    rows.iter().find(|row| word & row.mask == row.value).map(|row| row.form)
+    rows.iter()
+        .find(|row| word & row.mask == row.value)
+        .map(|row| row.form)
 }
 
 /// The form of the row of the table that the word fits.

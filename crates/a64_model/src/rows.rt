@@ -57,158 +57,91 @@ pub struct Row {
     pub form: Form,
 }
 
+/// A row by its mask, its value and its form.
+macro_rules! row {
+    ($mask:literal, $value:literal => $form:expr) => {
+        Row { mask: $mask, value: $value, form: $form }
+    };
+}
+
 /// All rows, by the encoding groups of DDI 0487, C4.1. No two of them fit one word.
 pub const ROWS: [Row; 74] = [
     // Data processing -- immediate
-    // ADR
-    Row { mask: 0x9F00_0000, value: 0x1000_0000, form: Form::PcRelative { page: false } },
-    // ADRP
-    Row { mask: 0x9F00_0000, value: 0x9000_0000, form: Form::PcRelative { page: true } },
-    // ADD, SUB (immediate)
-    Row { mask: 0x1F80_0000, value: 0x1100_0000, form: Form::AddImmediate },
-    // AND, ORR, EOR, ANDS (immediate)
-    Row { mask: 0x1F80_0000, value: 0x1200_0000, form: Form::LogicalImmediate },
-    // MOVN, MOVZ, MOVK
-    Row { mask: 0x1F80_0000, value: 0x1280_0000, form: Form::MoveWide },
-    // SBFM, BFM, UBFM
-    Row { mask: 0x1F80_0000, value: 0x1300_0000, form: Form::Bitfield },
-    // EXTR
-    Row { mask: 0x7FA0_0000, value: 0x1380_0000, form: Form::Extract },
+    row!(0x9F00_0000, 0x1000_0000 => Form::PcRelative { page: false }), // ADR
+    row!(0x9F00_0000, 0x9000_0000 => Form::PcRelative { page: true }), // ADRP
+    row!(0x1F80_0000, 0x1100_0000 => Form::AddImmediate), // ADD, SUB (immediate)
+    row!(0x1F80_0000, 0x1200_0000 => Form::LogicalImmediate), // AND, ORR, EOR, ANDS (immediate)
+    row!(0x1F80_0000, 0x1280_0000 => Form::MoveWide), // MOVN, MOVZ, MOVK
+    row!(0x1F80_0000, 0x1300_0000 => Form::Bitfield), // SBFM, BFM, UBFM
+    row!(0x7FA0_0000, 0x1380_0000 => Form::Extract), // EXTR
     // Branches, exception generating and system instructions
-    // B
-    Row { mask: 0xFC00_0000, value: 0x1400_0000, form: Form::Branch { link: false } },
-    // BL
-    Row { mask: 0xFC00_0000, value: 0x9400_0000, form: Form::Branch { link: true } },
-    // B.cond
-    Row { mask: 0xFF00_0010, value: 0x5400_0000, form: Form::BranchConditional },
-    // CBZ
-    Row { mask: 0x7F00_0000, value: 0x3400_0000, form: Form::CompareBranch { nonzero: false } },
-    // CBNZ
-    Row { mask: 0x7F00_0000, value: 0x3500_0000, form: Form::CompareBranch { nonzero: true } },
-    // TBZ
-    Row { mask: 0x7F00_0000, value: 0x3600_0000, form: Form::TestBranch { set: false } },
-    // TBNZ
-    Row { mask: 0x7F00_0000, value: 0x3700_0000, form: Form::TestBranch { set: true } },
-    // BR
-    Row { mask: 0xFFFF_FC1F, value: 0xD61F_0000, form: Form::BranchRegister(BranchKind::Jump) },
-    // BLR
-    Row { mask: 0xFFFF_FC1F, value: 0xD63F_0000, form: Form::BranchRegister(BranchKind::Call) },
-    // RET
-    Row { mask: 0xFFFF_FC1F, value: 0xD65F_0000, form: Form::BranchRegister(BranchKind::Return) },
-    // SVC
-    Row { mask: 0xFFE0_001F, value: 0xD400_0001, form: Form::SupervisorCall },
-    // BRK
-    Row { mask: 0xFFE0_001F, value: 0xD420_0000, form: Form::Breakpoint },
-    // hints
-    Row { mask: 0xFFFF_F01F, value: 0xD503_201F, form: Form::Hint },
-    // CLREX
-    Row { mask: 0xFFFF_F0FF, value: 0xD503_305F, form: Form::ClearExclusive },
-    // DSB
-    Row { mask: 0xFFFF_F0FF, value: 0xD503_309F, form: Form::Barrier },
-    // DMB
-    Row { mask: 0xFFFF_F0FF, value: 0xD503_30BF, form: Form::Barrier },
-    // ISB
-    Row { mask: 0xFFFF_F0FF, value: 0xD503_30DF, form: Form::Barrier },
-    // MRS TPIDR_EL0
-    Row { mask: 0xFFFF_FFE0, value: 0xD53B_D040, form: Form::ReadThreadPointer },
-    // MSR TPIDR_EL0
-    Row { mask: 0xFFFF_FFE0, value: 0xD51B_D040, form: Form::WriteThreadPointer },
+    row!(0xFC00_0000, 0x1400_0000 => Form::Branch { link: false }), // B
+    row!(0xFC00_0000, 0x9400_0000 => Form::Branch { link: true }), // BL
+    row!(0xFF00_0010, 0x5400_0000 => Form::BranchConditional), // B.cond
+    row!(0x7F00_0000, 0x3400_0000 => Form::CompareBranch { nonzero: false }), // CBZ
+    row!(0x7F00_0000, 0x3500_0000 => Form::CompareBranch { nonzero: true }), // CBNZ
+    row!(0x7F00_0000, 0x3600_0000 => Form::TestBranch { set: false }), // TBZ
+    row!(0x7F00_0000, 0x3700_0000 => Form::TestBranch { set: true }), // TBNZ
+    row!(0xFFFF_FC1F, 0xD61F_0000 => Form::BranchRegister(BranchKind::Jump)), // BR
+    row!(0xFFFF_FC1F, 0xD63F_0000 => Form::BranchRegister(BranchKind::Call)), // BLR
+    row!(0xFFFF_FC1F, 0xD65F_0000 => Form::BranchRegister(BranchKind::Return)), // RET
+    row!(0xFFE0_001F, 0xD400_0001 => Form::SupervisorCall), // SVC
+    row!(0xFFE0_001F, 0xD420_0000 => Form::Breakpoint), // BRK
+    row!(0xFFFF_F01F, 0xD503_201F => Form::Hint), // hints
+    row!(0xFFFF_F0FF, 0xD503_305F => Form::ClearExclusive), // CLREX
+    row!(0xFFFF_F0FF, 0xD503_309F => Form::Barrier), // DSB
+    row!(0xFFFF_F0FF, 0xD503_30BF => Form::Barrier), // DMB
+    row!(0xFFFF_F0FF, 0xD503_30DF => Form::Barrier), // ISB
+    row!(0xFFFF_FFE0, 0xD53B_D040 => Form::ReadThreadPointer), // MRS TPIDR_EL0
+    row!(0xFFFF_FFE0, 0xD51B_D040 => Form::WriteThreadPointer), // MSR TPIDR_EL0
     // Data processing -- register
-    // AND .. BICS (shifted register)
-    Row { mask: 0x1F00_0000, value: 0x0A00_0000, form: Form::LogicalShifted },
-    // ADD, SUB (shifted register)
-    Row { mask: 0x1F20_0000, value: 0x0B00_0000, form: Form::AddShifted },
-    // ADD, SUB (extended register)
-    Row { mask: 0x1FE0_0000, value: 0x0B20_0000, form: Form::AddExtended },
-    // ADC, SBC
-    Row { mask: 0x1FE0_FC00, value: 0x1A00_0000, form: Form::AddCarry },
-    // CCMN, CCMP (register)
-    Row { mask: 0x3FE0_0C10, value: 0x3A40_0000, form: Form::ConditionalCompareRegister },
-    // CCMN, CCMP (immediate)
-    Row { mask: 0x3FE0_0C10, value: 0x3A40_0800, form: Form::ConditionalCompareImmediate },
-    // CSEL, CSINC, CSINV, CSNEG
-    Row { mask: 0x3FE0_0800, value: 0x1A80_0000, form: Form::ConditionalSelect },
-    // RBIT
-    Row { mask: 0x7FFF_FC00, value: 0x5AC0_0000, form: Form::OneSource(OneSourceOp::ReverseBits) },
-    // REV16
-    Row { mask: 0x7FFF_FC00, value: 0x5AC0_0400, form: Form::OneSource(OneSourceOp::ReverseBytesOfHalves) },
-    // REV32
-    Row { mask: 0x7FFF_FC00, value: 0x5AC0_0800, form: Form::OneSource(OneSourceOp::ReverseBytesOfWords) },
-    // CLZ
-    Row { mask: 0x7FFF_FC00, value: 0x5AC0_1000, form: Form::OneSource(OneSourceOp::CountLeadingZeros) },
-    // CLS
-    Row { mask: 0x7FFF_FC00, value: 0x5AC0_1400, form: Form::OneSource(OneSourceOp::CountLeadingSigns) },
-    // REV (64-bit)
-    Row { mask: 0xFFFF_FC00, value: 0xDAC0_0C00, form: Form::ReverseBytes },
-    // UDIV
-    Row { mask: 0x7FE0_FC00, value: 0x1AC0_0800, form: Form::TwoSource(TwoSourceOp::UnsignedDivide) },
-    // SDIV
-    Row { mask: 0x7FE0_FC00, value: 0x1AC0_0C00, form: Form::TwoSource(TwoSourceOp::SignedDivide) },
-    // LSLV
-    Row { mask: 0x7FE0_FC00, value: 0x1AC0_2000, form: Form::TwoSource(TwoSourceOp::ShiftLeft) },
-    // LSRV
-    Row { mask: 0x7FE0_FC00, value: 0x1AC0_2400, form: Form::TwoSource(TwoSourceOp::ShiftRight) },
-    // ASRV
-    Row { mask: 0x7FE0_FC00, value: 0x1AC0_2800, form: Form::TwoSource(TwoSourceOp::ShiftRightSigned) },
-    // RORV
-    Row { mask: 0x7FE0_FC00, value: 0x1AC0_2C00, form: Form::TwoSource(TwoSourceOp::RotateRight) },
-    // MADD
-    Row { mask: 0x7FE0_8000, value: 0x1B00_0000, form: Form::MultiplyAdd(AddOp::Add) },
-    // MSUB
-    Row { mask: 0x7FE0_8000, value: 0x1B00_8000, form: Form::MultiplyAdd(AddOp::Subtract) },
-    // SMADDL
-    Row { mask: 0xFFE0_8000, value: 0x9B20_0000, form: Form::MultiplyLong { signed: true, op: AddOp::Add } },
-    // SMSUBL
-    Row { mask: 0xFFE0_8000, value: 0x9B20_8000, form: Form::MultiplyLong { signed: true, op: AddOp::Subtract } },
-    // UMADDL
-    Row { mask: 0xFFE0_8000, value: 0x9BA0_0000, form: Form::MultiplyLong { signed: false, op: AddOp::Add } },
-    // UMSUBL
-    Row { mask: 0xFFE0_8000, value: 0x9BA0_8000, form: Form::MultiplyLong { signed: false, op: AddOp::Subtract } },
-    // SMULH
-    Row { mask: 0xFFE0_FC00, value: 0x9B40_7C00, form: Form::MultiplyHigh { signed: true } },
-    // UMULH
-    Row { mask: 0xFFE0_FC00, value: 0x9BC0_7C00, form: Form::MultiplyHigh { signed: false } },
+    row!(0x1F00_0000, 0x0A00_0000 => Form::LogicalShifted), // AND .. BICS (shifted register)
+    row!(0x1F20_0000, 0x0B00_0000 => Form::AddShifted), // ADD, SUB (shifted register)
+    row!(0x1FE0_0000, 0x0B20_0000 => Form::AddExtended), // ADD, SUB (extended register)
+    row!(0x1FE0_FC00, 0x1A00_0000 => Form::AddCarry), // ADC, SBC
+    row!(0x3FE0_0C10, 0x3A40_0000 => Form::ConditionalCompareRegister), // CCMN, CCMP (register)
+    row!(0x3FE0_0C10, 0x3A40_0800 => Form::ConditionalCompareImmediate), // CCMN, CCMP (immediate)
+    row!(0x3FE0_0800, 0x1A80_0000 => Form::ConditionalSelect), // CSEL, CSINC, CSINV, CSNEG
+    row!(0x7FFF_FC00, 0x5AC0_0000 => Form::OneSource(OneSourceOp::ReverseBits)), // RBIT
+    row!(0x7FFF_FC00, 0x5AC0_0400 => Form::OneSource(OneSourceOp::ReverseBytesOfHalves)), // REV16
+    row!(0x7FFF_FC00, 0x5AC0_0800 => Form::OneSource(OneSourceOp::ReverseBytesOfWords)), // REV32
+    row!(0x7FFF_FC00, 0x5AC0_1000 => Form::OneSource(OneSourceOp::CountLeadingZeros)), // CLZ
+    row!(0x7FFF_FC00, 0x5AC0_1400 => Form::OneSource(OneSourceOp::CountLeadingSigns)), // CLS
+    row!(0xFFFF_FC00, 0xDAC0_0C00 => Form::ReverseBytes), // REV (64-bit)
+    row!(0x7FE0_FC00, 0x1AC0_0800 => Form::TwoSource(TwoSourceOp::UnsignedDivide)), // UDIV
+    row!(0x7FE0_FC00, 0x1AC0_0C00 => Form::TwoSource(TwoSourceOp::SignedDivide)), // SDIV
+    row!(0x7FE0_FC00, 0x1AC0_2000 => Form::TwoSource(TwoSourceOp::ShiftLeft)), // LSLV
+    row!(0x7FE0_FC00, 0x1AC0_2400 => Form::TwoSource(TwoSourceOp::ShiftRight)), // LSRV
+    row!(0x7FE0_FC00, 0x1AC0_2800 => Form::TwoSource(TwoSourceOp::ShiftRightSigned)), // ASRV
+    row!(0x7FE0_FC00, 0x1AC0_2C00 => Form::TwoSource(TwoSourceOp::RotateRight)), // RORV
+    row!(0x7FE0_8000, 0x1B00_0000 => Form::MultiplyAdd(AddOp::Add)), // MADD
+    row!(0x7FE0_8000, 0x1B00_8000 => Form::MultiplyAdd(AddOp::Subtract)), // MSUB
+    row!(0xFFE0_8000, 0x9B20_0000 => Form::MultiplyLong { signed: true, op: AddOp::Add }), // SMADDL
+    row!(0xFFE0_8000, 0x9B20_8000 => Form::MultiplyLong { signed: true, op: AddOp::Subtract }), // SMSUBL
+    row!(0xFFE0_8000, 0x9BA0_0000 => Form::MultiplyLong { signed: false, op: AddOp::Add }), // UMADDL
+    row!(0xFFE0_8000, 0x9BA0_8000 => Form::MultiplyLong { signed: false, op: AddOp::Subtract }), // UMSUBL
+    row!(0xFFE0_FC00, 0x9B40_7C00 => Form::MultiplyHigh { signed: true }), // SMULH
+    row!(0xFFE0_FC00, 0x9BC0_7C00 => Form::MultiplyHigh { signed: false }), // UMULH
     // Loads and stores
-    // LDR, STR and their kin, PRFM (unsigned offset)
-    Row { mask: 0x3F00_0000, value: 0x3900_0000, form: Form::LoadStoreUnsigned },
-    // LDUR, STUR and their kin, PRFUM
-    Row { mask: 0x3F20_0C00, value: 0x3800_0000, form: Form::LoadStoreIndexed(Indexing::Offset) },
-    // LDR, STR and their kin (post-index)
-    Row { mask: 0x3F20_0C00, value: 0x3800_0400, form: Form::LoadStoreIndexed(Indexing::PostIndex) },
-    // LDR, STR and their kin (pre-index)
-    Row { mask: 0x3F20_0C00, value: 0x3800_0C00, form: Form::LoadStoreIndexed(Indexing::PreIndex) },
-    // LDR, STR and their kin, PRFM (register offset)
-    Row { mask: 0x3F20_0C00, value: 0x3820_0800, form: Form::LoadStoreRegister },
-    // LDR, LDRSW, PRFM (literal)
-    Row { mask: 0x3F00_0000, value: 0x1800_0000, form: Form::LoadLiteral },
-    // LDP, STP, LDPSW (post-index)
-    Row { mask: 0x3F80_0000, value: 0x2880_0000, form: Form::LoadStorePair(Indexing::PostIndex) },
-    // LDP, STP, LDPSW (signed offset)
-    Row { mask: 0x3F80_0000, value: 0x2900_0000, form: Form::LoadStorePair(Indexing::Offset) },
-    // LDP, STP, LDPSW (pre-index)
-    Row { mask: 0x3F80_0000, value: 0x2980_0000, form: Form::LoadStorePair(Indexing::PreIndex) },
-    // STXR and its kin
-    Row { mask: 0x3FE0_FC00, value: 0x0800_7C00, form: Form::StoreExclusive },
-    // STLXR and its kin
-    Row { mask: 0x3FE0_FC00, value: 0x0800_FC00, form: Form::StoreExclusive },
-    // LDXR and its kin
-    Row { mask: 0x3FFF_FC00, value: 0x085F_7C00, form: Form::LoadExclusive },
-    // LDAXR and its kin
-    Row { mask: 0x3FFF_FC00, value: 0x085F_FC00, form: Form::LoadExclusive },
-    // STLR and its kin
-    Row { mask: 0x3FFF_FC00, value: 0x089F_FC00, form: Form::StoreOrdered },
-    // LDAR and its kin
-    Row { mask: 0x3FFF_FC00, value: 0x08DF_FC00, form: Form::LoadOrdered },
-    // CAS and its kin, with A and L
-    Row { mask: 0x3FA0_7C00, value: 0x08A0_7C00, form: Form::CompareSwap },
-    // LDADD and its kin
-    Row { mask: 0x3F20_FC00, value: 0x3820_0000, form: Form::Atomic(AtomicOp::Add) },
-    // LDCLR and its kin
-    Row { mask: 0x3F20_FC00, value: 0x3820_1000, form: Form::Atomic(AtomicOp::Clear) },
-    // LDEOR and its kin
-    Row { mask: 0x3F20_FC00, value: 0x3820_2000, form: Form::Atomic(AtomicOp::ExclusiveOr) },
-    // LDSET and its kin
-    Row { mask: 0x3F20_FC00, value: 0x3820_3000, form: Form::Atomic(AtomicOp::Set) },
-    // SWP and its kin
-    Row { mask: 0x3F20_FC00, value: 0x3820_8000, form: Form::Atomic(AtomicOp::Swap) },
+    row!(0x3F00_0000, 0x3900_0000 => Form::LoadStoreUnsigned), // LDR, STR and their kin, PRFM (unsigned offset)
+    row!(0x3F20_0C00, 0x3800_0000 => Form::LoadStoreIndexed(Indexing::Offset)), // LDUR, STUR and their kin, PRFUM
+    row!(0x3F20_0C00, 0x3800_0400 => Form::LoadStoreIndexed(Indexing::PostIndex)), // LDR, STR and their kin (post-index)
+    row!(0x3F20_0C00, 0x3800_0C00 => Form::LoadStoreIndexed(Indexing::PreIndex)), // LDR, STR and their kin (pre-index)
+    row!(0x3F20_0C00, 0x3820_0800 => Form::LoadStoreRegister), // LDR, STR and their kin, PRFM (register offset)
+    row!(0x3F00_0000, 0x1800_0000 => Form::LoadLiteral), // LDR, LDRSW, PRFM (literal)
+    row!(0x3F80_0000, 0x2880_0000 => Form::LoadStorePair(Indexing::PostIndex)), // LDP, STP, LDPSW (post-index)
+    row!(0x3F80_0000, 0x2900_0000 => Form::LoadStorePair(Indexing::Offset)), // LDP, STP, LDPSW (signed offset)
+    row!(0x3F80_0000, 0x2980_0000 => Form::LoadStorePair(Indexing::PreIndex)), // LDP, STP, LDPSW (pre-index)
+    row!(0x3FE0_FC00, 0x0800_7C00 => Form::StoreExclusive), // STXR and its kin
+    row!(0x3FE0_FC00, 0x0800_FC00 => Form::StoreExclusive), // STLXR and its kin
+    row!(0x3FFF_FC00, 0x085F_7C00 => Form::LoadExclusive), // LDXR and its kin
+    row!(0x3FFF_FC00, 0x085F_FC00 => Form::LoadExclusive), // LDAXR and its kin
+    row!(0x3FFF_FC00, 0x089F_FC00 => Form::StoreOrdered), // STLR and its kin
+    row!(0x3FFF_FC00, 0x08DF_FC00 => Form::LoadOrdered), // LDAR and its kin
+    row!(0x3FA0_7C00, 0x08A0_7C00 => Form::CompareSwap), // CAS and its kin, with A and L
+    row!(0x3F20_FC00, 0x3820_0000 => Form::Atomic(AtomicOp::Add)), // LDADD and its kin
+    row!(0x3F20_FC00, 0x3820_1000 => Form::Atomic(AtomicOp::Clear)), // LDCLR and its kin
+    row!(0x3F20_FC00, 0x3820_2000 => Form::Atomic(AtomicOp::ExclusiveOr)), // LDEOR and its kin
+    row!(0x3F20_FC00, 0x3820_3000 => Form::Atomic(AtomicOp::Set)), // LDSET and its kin
+    row!(0x3F20_FC00, 0x3820_8000 => Form::Atomic(AtomicOp::Swap)), // SWP and its kin
 ];

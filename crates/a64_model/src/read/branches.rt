@@ -5,7 +5,10 @@ ghost use Rattle.a64_model.specs.Widths.{HasWidths};
 
 use super::operands::{condition, reg, width};
 use crate::bits::{bits, sign_extended};
-use crate::instr::{Branch, BranchConditional, BranchRegister, CompareBranch, Instr, ReadThreadPointer, TestBranch, WriteThreadPointer};
+use crate::instr::{
+    Branch, BranchConditional, BranchRegister, CompareBranch, Instr, ReadThreadPointer, TestBranch,
+    WriteThreadPointer,
+};
 use crate::operands::BranchKind;
 
 pub fn branch(link: bool, word: u32) -> Option<Instr>
@@ -21,7 +24,10 @@ pub fn branch_conditional(word: u32) -> Option<Instr>
     ensures widths { IfSome result HasWidths }
 {
     let offset = sign_extended(bits(word, 23, 5) as u64 * 4, 21);
-    Some(Instr::BranchConditional(BranchConditional { condition: condition(bits(word, 3, 0)), offset }))
+    Some(Instr::BranchConditional(BranchConditional {
+        condition: condition(bits(word, 3, 0)),
+        offset,
+    }))
 }
 
 pub fn compare_branch(nonzero: bool, word: u32) -> Option<Instr>
@@ -29,7 +35,12 @@ pub fn compare_branch(nonzero: bool, word: u32) -> Option<Instr>
     ensures widths { IfSome result HasWidths }
 {
     let offset = sign_extended(bits(word, 23, 5) as u64 * 4, 21);
-    Some(Instr::CompareBranch(CompareBranch { width: width(word), nonzero, offset, rt: reg(word, 0) }))
+    Some(Instr::CompareBranch(CompareBranch {
+        width: width(word),
+        nonzero,
+        offset,
+        rt: reg(word, 0),
+    }))
 }
 
 pub fn test_branch(set: bool, word: u32) -> Option<Instr>
@@ -38,14 +49,22 @@ pub fn test_branch(set: bool, word: u32) -> Option<Instr>
 {
     let offset = sign_extended(bits(word, 18, 5) as u64 * 4, 16);
     let bit_number = (bits(word, 31, 31) * 32 + bits(word, 23, 19)) as u8;
-    Some(Instr::TestBranch(TestBranch { set, bit_number, offset, rt: reg(word, 0) }))
+    Some(Instr::TestBranch(TestBranch {
+        set,
+        bit_number,
+        offset,
+        rt: reg(word, 0),
+    }))
 }
 
 pub fn branch_register(kind: BranchKind, word: u32) -> Option<Instr>
     ensures value { result ≡ branch_register kind word }
     ensures widths { IfSome result HasWidths }
 {
-    Some(Instr::BranchRegister(BranchRegister { kind, rn: reg(word, 5) }))
+    Some(Instr::BranchRegister(BranchRegister {
+        kind,
+        rn: reg(word, 5),
+    }))
 }
 
 pub fn read_thread_pointer(word: u32) -> Option<Instr>

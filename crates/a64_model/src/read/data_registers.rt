@@ -5,7 +5,10 @@ ghost use Rattle.a64_model.specs.Widths.{HasWidths, HasComparandWidth};
 
 use super::operands::{add_op, condition, extend, logical_op, reg, shift, width, width_bits};
 use crate::bits::{bit, bits};
-use crate::instr::{AddCarry, AddExtended, AddShifted, ConditionalCompare, ConditionalSelect, Instr, LogicalShifted, MultiplyAdd, MultiplyHigh, MultiplyLong, OneSource, ReverseBytes, TwoSource};
+use crate::instr::{
+    AddCarry, AddExtended, AddShifted, ConditionalCompare, ConditionalSelect, Instr,
+    LogicalShifted, MultiplyAdd, MultiplyHigh, MultiplyLong, OneSource, ReverseBytes, TwoSource,
+};
 use crate::operands::{AddOp, Comparand, OneSourceOp, SelectOp, TwoSourceOp};
 
 pub fn logical_shifted(word: u32) -> Option<Instr>
@@ -144,21 +147,35 @@ pub fn one_source(op: OneSourceOp, word: u32) -> Option<Instr>
     ensures value { result ≡ one_source op word }
     ensures widths { IfSome result HasWidths }
 {
-    Some(Instr::OneSource(OneSource { width: width(word), op, rn: reg(word, 5), rd: reg(word, 0) }))
+    Some(Instr::OneSource(OneSource {
+        width: width(word),
+        op,
+        rn: reg(word, 5),
+        rd: reg(word, 0),
+    }))
 }
 
 pub fn reverse_bytes(word: u32) -> Option<Instr>
     ensures value { result ≡ reverse_bytes word }
     ensures widths { IfSome result HasWidths }
 {
-    Some(Instr::ReverseBytes(ReverseBytes { rn: reg(word, 5), rd: reg(word, 0) }))
+    Some(Instr::ReverseBytes(ReverseBytes {
+        rn: reg(word, 5),
+        rd: reg(word, 0),
+    }))
 }
 
 pub fn two_source(op: TwoSourceOp, word: u32) -> Option<Instr>
     ensures value { result ≡ two_source op word }
     ensures widths { IfSome result HasWidths }
 {
-    Some(Instr::TwoSource(TwoSource { width: width(word), op, rm: reg(word, 16), rn: reg(word, 5), rd: reg(word, 0) }))
+    Some(Instr::TwoSource(TwoSource {
+        width: width(word),
+        op,
+        rm: reg(word, 16),
+        rn: reg(word, 5),
+        rd: reg(word, 0),
+    }))
 }
 
 pub fn multiply_add(op: AddOp, word: u32) -> Option<Instr>
@@ -193,5 +210,10 @@ pub fn multiply_high(signed: bool, word: u32) -> Option<Instr>
     ensures value { result ≡ multiply_high signed word }
     ensures widths { IfSome result HasWidths }
 {
-    Some(Instr::MultiplyHigh(MultiplyHigh { signed, rm: reg(word, 16), rn: reg(word, 5), rd: reg(word, 0) }))
+    Some(Instr::MultiplyHigh(MultiplyHigh {
+        signed,
+        rm: reg(word, 16),
+        rn: reg(word, 5),
+        rd: reg(word, 0),
+    }))
 }

@@ -6,7 +6,9 @@ ghost use Rattle.a64_model.specs.Widths.{HasWidths};
 
 use super::operands::{add_op, logical_op, low, reg, width, width_bits};
 use crate::bits::{bit, bits, sign_extended};
-use crate::instr::{AddImmediate, Bitfield, Extract, Instr, LogicalImmediate, MoveWide, PcRelative};
+use crate::instr::{
+    AddImmediate, Bitfield, Extract, Instr, LogicalImmediate, MoveWide, PcRelative,
+};
 use crate::operands::{BitfieldOp, MoveWideOp, Width};
 
 /// What an ADRP counts in bytes.
@@ -17,8 +19,16 @@ pub fn pc_relative(page: bool, word: u32) -> Option<Instr>
     ensures widths { IfSome result HasWidths }
 {
     let imm = bits(word, 23, 5) as u64 * 4 + bits(word, 30, 29) as u64;
-    let offset = if page { sign_extended(imm * PAGE, 33) } else { sign_extended(imm, 21) };
-    Some(Instr::PcRelative(PcRelative { page, offset, rd: reg(word, 0) }))
+    let offset = if page {
+        sign_extended(imm * PAGE, 33)
+    } else {
+        sign_extended(imm, 21)
+    };
+    Some(Instr::PcRelative(PcRelative {
+        page,
+        offset,
+        rd: reg(word, 0),
+    }))
 }
 
 pub fn add_immediate(word: u32) -> Option<Instr>
@@ -124,7 +134,13 @@ pub fn move_wide(word: u32) -> Option<Instr>
         return None;
     }
     let op = move_wide_op(bits(word, 30, 29))?;
-    Some(Instr::MoveWide(MoveWide { width, op, hw: hw as u8, imm16: bits(word, 20, 5) as u16, rd: reg(word, 0) }))
+    Some(Instr::MoveWide(MoveWide {
+        width,
+        op,
+        hw: hw as u8,
+        imm16: bits(word, 20, 5) as u16,
+        rd: reg(word, 0),
+    }))
 }
 
 fn bitfield_op(opc: u32) -> Option<BitfieldOp>
@@ -145,11 +161,21 @@ pub fn bitfield(word: u32) -> Option<Instr>
     let width = width(word);
     let immr = bits(word, 21, 16);
     let imms = bits(word, 15, 10);
-    if bits(word, 22, 22) != bits(word, 31, 31) || immr >= width_bits(width) || imms >= width_bits(width) {
+    if bits(word, 22, 22) != bits(word, 31, 31)
+        || immr >= width_bits(width)
+        || imms >= width_bits(width)
+    {
         return None;
     }
     let op = bitfield_op(bits(word, 30, 29))?;
-    Some(Instr::Bitfield(Bitfield { width, op, immr: immr as u8, imms: imms as u8, rn: reg(word, 5), rd: reg(word, 0) }))
+    Some(Instr::Bitfield(Bitfield {
+        width,
+        op,
+        immr: immr as u8,
+        imms: imms as u8,
+        rn: reg(word, 5),
+        rd: reg(word, 0),
+    }))
 }
 
 pub fn extract(word: u32) -> Option<Instr>
@@ -161,5 +187,11 @@ pub fn extract(word: u32) -> Option<Instr>
     if bits(word, 22, 22) != bits(word, 31, 31) || lowest >= width_bits(width) {
         return None;
     }
-    Some(Instr::Extract(Extract { width, lowest: lowest as u8, rm: reg(word, 16), rn: reg(word, 5), rd: reg(word, 0) }))
+    Some(Instr::Extract(Extract {
+        width,
+        lowest: lowest as u8,
+        rm: reg(word, 16),
+        rn: reg(word, 5),
+        rd: reg(word, 0),
+    }))
 }

@@ -6,7 +6,10 @@ ghost use Rattle.a64_model.specs.Widths.{HasWidths, may_transfer, is_pair_kind, 
 
 use super::operands::{extend, is_31, is_same, reg, size, size_bytes, size_log};
 use crate::bits::{bit, bits, sign_extended};
-use crate::instr::{Atomic, CompareSwap, Instr, LoadExclusive, LoadLiteral, LoadOrdered, LoadStoreIndexed, LoadStorePair, LoadStoreRegister, LoadStoreUnsigned, StoreExclusive, StoreOrdered};
+use crate::instr::{
+    Atomic, CompareSwap, Instr, LoadExclusive, LoadLiteral, LoadOrdered, LoadStoreIndexed,
+    LoadStorePair, LoadStoreRegister, LoadStoreUnsigned, StoreExclusive, StoreOrdered,
+};
 use crate::operands::{AtomicOp, Indexing, LiteralKind, PairKind, Reg, Size, Transfer};
 
 /// Whether the base register stays as it is.
@@ -58,7 +61,13 @@ pub fn load_store_unsigned(word: u32) -> Option<Instr>
     let size = size(bits(word, 31, 30));
     let transfer = transfer(size, bits(word, 23, 22), true)?;
     let offset = bits(word, 21, 10) as u64 * size_bytes(size);
-    Some(Instr::LoadStoreUnsigned(LoadStoreUnsigned { size, transfer, offset, rn: reg(word, 5), rt: reg(word, 0) }))
+    Some(Instr::LoadStoreUnsigned(LoadStoreUnsigned {
+        size,
+        transfer,
+        offset,
+        rn: reg(word, 5),
+        rt: reg(word, 0),
+    }))
 }
 
 pub fn load_store_indexed(indexing: Indexing, word: u32) -> Option<Instr>
@@ -73,7 +82,14 @@ pub fn load_store_indexed(indexing: Indexing, word: u32) -> Option<Instr>
     let size = size(bits(word, 31, 30));
     let transfer = transfer(size, bits(word, 23, 22), is_offset(indexing))?;
     let offset = sign_extended(bits(word, 20, 12) as u64, 9);
-    Some(Instr::LoadStoreIndexed(LoadStoreIndexed { size, transfer, indexing, offset, rn, rt }))
+    Some(Instr::LoadStoreIndexed(LoadStoreIndexed {
+        size,
+        transfer,
+        indexing,
+        offset,
+        rn,
+        rt,
+    }))
 }
 
 pub fn load_store_register(word: u32) -> Option<Instr>
@@ -112,7 +128,11 @@ pub fn load_literal(word: u32) -> Option<Instr>
     ensures widths { IfSome result HasWidths }
 {
     let offset = sign_extended(bits(word, 23, 5) as u64 * 4, 21);
-    Some(Instr::LoadLiteral(LoadLiteral { kind: literal_kind(bits(word, 31, 30)), offset, rt: reg(word, 0) }))
+    Some(Instr::LoadLiteral(LoadLiteral {
+        kind: literal_kind(bits(word, 31, 30)),
+        offset,
+        rt: reg(word, 0),
+    }))
 }
 
 fn pair_kind(opc: u32, load: bool) -> Option<PairKind>
@@ -154,12 +174,23 @@ pub fn load_store_pair(indexing: Indexing, word: u32) -> Option<Instr>
     let rn = reg(word, 5);
     let rt = reg(word, 0);
     let rt2 = reg(word, 10);
-    if !may_write_back(indexing, rn, rt) || !may_write_back(indexing, rn, rt2) || !may_pair(load, rt, rt2) {
+    if !may_write_back(indexing, rn, rt)
+        || !may_write_back(indexing, rn, rt2)
+        || !may_pair(load, rt, rt2)
+    {
         return None;
     }
     let kind = pair_kind(bits(word, 31, 30), load)?;
     let offset = pair_offset(kind, bits(word, 21, 15));
-    Some(Instr::LoadStorePair(LoadStorePair { kind, load, indexing, offset, rt2, rn, rt }))
+    Some(Instr::LoadStorePair(LoadStorePair {
+        kind,
+        load,
+        indexing,
+        offset,
+        rt2,
+        rn,
+        rt,
+    }))
 }
 
 /// Whether the status goes to a register that is neither stored nor the base.
@@ -179,28 +210,45 @@ pub fn store_exclusive(word: u32) -> Option<Instr>
     if !may_take_status(rs, rt, rn) {
         return None;
     }
-    Some(Instr::StoreExclusive(StoreExclusive { size: size(bits(word, 31, 30)), rs, rn, rt }))
+    Some(Instr::StoreExclusive(StoreExclusive {
+        size: size(bits(word, 31, 30)),
+        rs,
+        rn,
+        rt,
+    }))
 }
 
 pub fn load_exclusive(word: u32) -> Option<Instr>
     ensures value { result ≡ load_exclusive word }
     ensures widths { IfSome result HasWidths }
 {
-    Some(Instr::LoadExclusive(LoadExclusive { size: size(bits(word, 31, 30)), rn: reg(word, 5), rt: reg(word, 0) }))
+    Some(Instr::LoadExclusive(LoadExclusive {
+        size: size(bits(word, 31, 30)),
+        rn: reg(word, 5),
+        rt: reg(word, 0),
+    }))
 }
 
 pub fn store_ordered(word: u32) -> Option<Instr>
     ensures value { result ≡ store_ordered word }
     ensures widths { IfSome result HasWidths }
 {
-    Some(Instr::StoreOrdered(StoreOrdered { size: size(bits(word, 31, 30)), rn: reg(word, 5), rt: reg(word, 0) }))
+    Some(Instr::StoreOrdered(StoreOrdered {
+        size: size(bits(word, 31, 30)),
+        rn: reg(word, 5),
+        rt: reg(word, 0),
+    }))
 }
 
 pub fn load_ordered(word: u32) -> Option<Instr>
     ensures value { result ≡ load_ordered word }
     ensures widths { IfSome result HasWidths }
 {
-    Some(Instr::LoadOrdered(LoadOrdered { size: size(bits(word, 31, 30)), rn: reg(word, 5), rt: reg(word, 0) }))
+    Some(Instr::LoadOrdered(LoadOrdered {
+        size: size(bits(word, 31, 30)),
+        rn: reg(word, 5),
+        rt: reg(word, 0),
+    }))
 }
 
 pub fn compare_swap(word: u32) -> Option<Instr>

@@ -10,7 +10,9 @@ pub fn reg(word: u32, low: u32) -> Reg
     requires { low < 28 }
     ensures { result ≡ reg word low }
 {
-    Reg { number: bits(word, low + 4, low) as u8 }
+    Reg {
+        number: bits(word, low + 4, low) as u8,
+    }
 }
 
 /// Whether two fields name one register.
@@ -147,7 +149,11 @@ pub fn extend(n: u32) -> Extend
 pub fn add_op(word: u32) -> AddOp
     ensures { result ≡ add_op word }
 {
-    if bit(word, 30) { AddOp::Subtract } else { AddOp::Add }
+    if bit(word, 30) {
+        AddOp::Subtract
+    } else {
+        AddOp::Add
+    }
 }
 
 /// The logical operation of a number of two bits.
