@@ -1,0 +1,10 @@
+use Rattle.std.proofs.Common.{refl, rules, [], ◌∷◌}
+use Rattle.a64_decode.proofs.Rows.{form_at, no_row, Is, IsNone}
+use Rattle.a64_decode.proofs.forms.data_registers.add_register.Goals as goal
+
+pub returns-in-184549376 : goal.returns-in-184549376
+returns-in-184549376 c = search (rules, form_at)
+
+pub returns-in_default : goal.returns-in_default
+returns-in_default c =
+    no_row (Is 0x1F00_0000 0x0B00_0000 ∷ IsNone 0x1F20_0000 (0x0B00_0000 ∷ 0x0B20_0000 ∷ []) ∷ []) c.args.word (search rules) refl

@@ -1,0 +1,13 @@
+use Rattle.std.proofs.Common.{refl, rules, [], ◌∷◌}
+use Rattle.a64_decode.proofs.Rows.{form_at, no_row, Is, IsNone}
+use Rattle.a64_decode.proofs.forms.data_registers.unsigned_multiply_long.Goals as goal
+
+pub returns-in-2610954240 : goal.returns-in-2610954240
+returns-in-2610954240 c = search (rules, form_at)
+
+pub returns-in-2610987008 : goal.returns-in-2610987008
+returns-in-2610987008 c = search (rules, form_at)
+
+pub returns-in_default : goal.returns-in_default
+returns-in_default c =
+    no_row (Is 0x1FE0_0000 0x1BA0_0000 ∷ IsNone 0xFFE0_8000 (0x9BA0_0000 ∷ 0x9BA0_8000 ∷ []) ∷ []) c.args.word (search rules) refl

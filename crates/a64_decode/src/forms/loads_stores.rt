@@ -1,0 +1,158 @@
+//! Loads and stores (DDI 0487, C4.1).
+ghost use Rattle.std.specs.Prelude.{◌≡◌, bit_and};
+ghost use Rattle.a64_model.specs.Rows.{form_of};
+
+use a64_model::operands::{AtomicOp, Indexing};
+use a64_model::rows::Form;
+
+/// Loads and stores.
+pub fn load_or_store(word: u32) -> Option<Form>
+    requires { bit_and word 0x0A00_0000 ≡ 0x0800_0000 }
+    ensures { result ≡ form_of word }
+{
+    match word & 0x3E00_0000 {
+        0x0800_0000 => exclusive_or_ordered(word),
+        0x1800_0000 => literal(word),
+        0x2800_0000 => pair(word),
+        0x3800_0000 => single(word),
+        _ => None,
+    }
+}
+
+/// Exclusive and ordered accesses.
+fn exclusive_or_ordered(word: u32) -> Option<Form>
+    requires { bit_and word 0x3E00_0000 ≡ 0x0800_0000 }
+    ensures { result ≡ form_of word }
+{
+    match word & 0x3FA0_0000 {
+        0x0800_0000 => exclusive(word),
+        0x0880_0000 => ordered(word),
+        0x08A0_0000 => compare_swap(word),
+        _ => None,
+    }
+}
+
+/// Exclusive accesses.
+fn exclusive(word: u32) -> Option<Form>
+    requires { bit_and word 0x3FA0_0000 ≡ 0x0800_0000 }
+    ensures { result ≡ form_of word }
+{
+    match word & 0x3FE0_0000 {
+        0x0800_0000 => store_exclusive(word),
+        0x0840_0000 => load_exclusive(word),
+        _ => None,
+    }
+}
+
+/// STXR and STLXR.
+fn store_exclusive(word: u32) -> Option<Form>
+    requires { bit_and word 0x3FE0_0000 ≡ 0x0800_0000 }
+    ensures { result ≡ form_of word }
+{
+    match word & 0x3FE0_FC00 {
+        0x0800_7C00 => Some(Form::StoreExclusive),
+        0x0800_FC00 => Some(Form::StoreExclusive),
+        _ => None,
+    }
+}
+
+/// LDXR and LDAXR.
+fn load_exclusive(word: u32) -> Option<Form>
+    requires { bit_and word 0x3FE0_0000 ≡ 0x0840_0000 }
+    ensures { result ≡ form_of word }
+{
+    match word & 0x3FFF_FC00 {
+        0x085F_7C00 => Some(Form::LoadExclusive),
+        0x085F_FC00 => Some(Form::LoadExclusive),
+        _ => None,
+    }
+}
+
+/// STLR and LDAR.
+fn ordered(word: u32) -> Option<Form>
+    requires { bit_and word 0x3FA0_0000 ≡ 0x0880_0000 }
+    ensures { result ≡ form_of word }
+{
+    match word & 0x3FFF_FC00 {
+        0x089F_FC00 => Some(Form::StoreOrdered),
+        0x08DF_FC00 => Some(Form::LoadOrdered),
+        _ => None,
+    }
+}
+
+/// CAS.
+fn compare_swap(word: u32) -> Option<Form>
+    requires { bit_and word 0x3FA0_0000 ≡ 0x08A0_0000 }
+    ensures { result ≡ form_of word }
+{
+    match word & 0x3FA0_7C00 {
+        0x08A0_7C00 => Some(Form::CompareSwap),
+        _ => None,
+    }
+}
+
+/// Loads from near this instruction.
+fn literal(word: u32) -> Option<Form>
+    requires { bit_and word 0x3E00_0000 ≡ 0x1800_0000 }
+    ensures { result ≡ form_of word }
+{
+    match word & 0x3F00_0000 {
+        0x1800_0000 => Some(Form::LoadLiteral),
+        _ => None,
+    }
+}
+
+/// Pairs.
+fn pair(word: u32) -> Option<Form>
+    requires { bit_and word 0x3E00_0000 ≡ 0x2800_0000 }
+    ensures { result ≡ form_of word }
+{
+    match word & 0x3F80_0000 {
+        0x2880_0000 => Some(Form::LoadStorePair(Indexing::PostIndex)),
+        0x2900_0000 => Some(Form::LoadStorePair(Indexing::Offset)),
+        0x2980_0000 => Some(Form::LoadStorePair(Indexing::PreIndex)),
+        _ => None,
+    }
+}
+
+/// Accesses of one register.
+fn single(word: u32) -> Option<Form>
+    requires { bit_and word 0x3E00_0000 ≡ 0x3800_0000 }
+    ensures { result ≡ form_of word }
+{
+    match word & 0x3F00_0000 {
+        0x3800_0000 => indexed_or_atomic(word),
+        0x3900_0000 => Some(Form::LoadStoreUnsigned),
+        _ => None,
+    }
+}
+
+/// Accesses by a signed offset or a register, and atomic operations.
+fn indexed_or_atomic(word: u32) -> Option<Form>
+    requires { bit_and word 0x3F00_0000 ≡ 0x3800_0000 }
+    ensures { result ≡ form_of word }
+{
+    match word & 0x3F20_0C00 {
+        0x3800_0000 => Some(Form::LoadStoreIndexed(Indexing::Offset)),
+        0x3800_0400 => Some(Form::LoadStoreIndexed(Indexing::PostIndex)),
+        0x3800_0C00 => Some(Form::LoadStoreIndexed(Indexing::PreIndex)),
+        0x3820_0000 => atomic(word),
+        0x3820_0800 => Some(Form::LoadStoreRegister),
+        _ => None,
+    }
+}
+
+/// Atomic operations.
+fn atomic(word: u32) -> Option<Form>
+    requires { bit_and word 0x3F20_0C00 ≡ 0x3820_0000 }
+    ensures { result ≡ form_of word }
+{
+    match word & 0x3F20_FC00 {
+        0x3820_0000 => Some(Form::Atomic(AtomicOp::Add)),
+        0x3820_1000 => Some(Form::Atomic(AtomicOp::Clear)),
+        0x3820_2000 => Some(Form::Atomic(AtomicOp::ExclusiveOr)),
+        0x3820_3000 => Some(Form::Atomic(AtomicOp::Set)),
+        0x3820_8000 => Some(Form::Atomic(AtomicOp::Swap)),
+        _ => None,
+    }
+}
