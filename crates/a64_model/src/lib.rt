@@ -10,6 +10,5 @@ pub mod bits;
 pub mod instr;
 pub mod operands;
 pub mod read;
-pub mod read_row;
 pub mod regs;
 pub mod rows;

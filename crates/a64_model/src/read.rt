@@ -1,10 +1,11 @@
-//! The fields of a word, by the form of its row.
+//! The plain reader: it looks at each row in turn, and then reads the fields of the form.
 ghost use Rattle.std.specs.Prelude.{◌≡◌, ◌*◌, ◌^◌, ◌<◌, ◌≤◌, IsTrue, IfSome};
 ghost use Rattle.a64_model.specs.Fields.{fields};
+ghost use Rattle.a64_model.specs.Rows.{form_among, form_of, row, AtMostOneRow};
 ghost use Rattle.a64_model.specs.Widths.{HasWidths};
 
 use crate::instr::Instr;
-use crate::rows::Form;
+use crate::rows::{Form, ROWS, Row};
 
 mod branches;
 mod data_registers;
@@ -76,4 +77,32 @@ pub fn fields(form: Form, word: u32) -> Option<Instr>
         Form::CompareSwap => compare_swap(word),
         Form::Atomic(op) => atomic(op, word),
     }
+}
+
+/// The form of the first of these rows that the word fits.
+fn form_among(rows: &[Row], word: u32) -> Option<Form>
+    ensures { result ≡ form_among rows.now word }
+{
+    rows.iter()
+        .find(|row| word & row.mask == row.value)
+        .map(|row| row.form)
+}
+
+/// The form of the row of the table that the word fits.
+#[tactic(auto, unfolding(crate::specs::Rows::form_of))]
+fn form_of(word: u32) -> Option<Form>
+    ensures { result ≡ form_of word }
+{
+    form_among(&ROWS, word)
+}
+
+/// The instruction of the row that the word fits, with its fields, and none exactly where no row fits. No word fits
+/// two rows.
+#[tactic(auto, using(crate::proofs::ApartLemmas::at_most_one))]
+pub fn read_row(word: u32) -> Option<Instr>
+    ensures row { result ≡ row word }
+    ensures widths { IfSome result HasWidths }
+    ensures one { AtMostOneRow word }
+{
+    fields(form_of(word)?, word)
 }
