@@ -1,8 +1,7 @@
--- The immediates of logical operations: DecodeBitMasks of the Arm manual (DDI 0487, shared pseudocode).
+-- Which immediates of logical operations are patterns: DecodeBitMasks of the Arm manual (DDI 0487, shared pseudocode).
 use Rattle.std.specs.Prelude.{ℕ, ◌+◌, ◌-◌, ◌*◌, ◌/◌, ◌%◌, ◌^◌, Bool, true, false, ◌&&◌, ◌||◌, ◌==◌, nat_le}
 use Rattle.std.proofs.Math.Bool.{not}
 use Rattle.std.specs.Int.{leading_zeros, w32}
-use Rattle.a64_model.specs.Operands.{low}
 use Rattle.a64_model.specs.declared.operands.Width.{Width}
 use Rattle.a64_model.specs.declared.operands.Width.TheVariants.{W, X}
 
@@ -29,15 +28,3 @@ abbrev pub is_pattern : Width → ℕ → ℕ → Bool
 is_pattern w n imms =
     let levels = element_size n imms - 1 in
     may_have w n && nat_le 1 (element_log n imms) && not (imms % element_size n imms == levels)
-
--- ROR of a number of `count` bits: two copies in a row, moved right
-abbrev pub rotated : ℕ → ℕ → ℕ → ℕ
-rotated count n by = (n * 2 ^ count + n) / 2 ^ by % 2 ^ count
-
--- Replicate: a number of `count` bits, over and over in 64 bits
-abbrev pub replicated : ℕ → ℕ → ℕ
-replicated count n = n * ((2 ^ 64 - 1) / (2 ^ count - 1))
-
--- wmask of elements of this size: S + 1 ones, rotated right by R and repeated
-abbrev pub pattern : ℕ → ℕ → ℕ → ℕ
-pattern count immr imms = replicated count (rotated count (2 ^ (imms % count + 1) - 1) (immr % count))

@@ -1,9 +1,9 @@
 -- Data Processing -- Immediate (DDI 0487, C4.1): the fields of each row, or none where its condition fails.
 use Rattle.std.specs.Prelude.{ℕ, ◌≡◌, ◌+◌, ◌*◌, ◌<◌, Bool, true, false, ◌&&◌, ◌==◌, nat_lt, Option, Some, None, if◌then◌else◌}
 use Rattle.std.specs.Option.{option_map}
-use Rattle.a64_model.specs.Bits.{bit, bits, sign_extended}
-use Rattle.a64_model.specs.Operands.{reg, width, width_bits, low, add_op, logical_op}
-use Rattle.a64_model.specs.BitMasks.{element_size, is_pattern, pattern}
+use Rattle.a64_model.specs.Bits.{bit, bits}
+use Rattle.a64_model.specs.Operands.{reg, width, width_bits, add_op, logical_op}
+use Rattle.a64_model.specs.BitMasks.{is_pattern}
 use Rattle.a64_model.specs.declared.instr.Instr.{Instr}
 use Rattle.a64_model.specs.declared.instr.Instr.TheVariants as instr
 use Rattle.a64_model.specs.declared.operands.MoveWideOp.{MoveWideOp}
@@ -11,13 +11,12 @@ use Rattle.a64_model.specs.declared.operands.MoveWideOp.TheVariants as moves
 use Rattle.a64_model.specs.declared.operands.BitfieldOp.{BitfieldOp}
 use Rattle.a64_model.specs.declared.operands.BitfieldOp.TheVariants as bitfields
 
--- PC-rel. addressing: ADR, ADRP. imm is bits 23 to 5 and then 30 to 29, signed; ADRP counts pages of 4096 bytes
+-- PC-rel. addressing: ADR, ADRP. imm is bits 23 to 5 and then 30 to 29
 abbrev pub pc_relative : Bool → ℕ → Option Instr
 pc_relative page word =
-    let imm = bits word 23 5 * 4 + bits word 30 29 in
     Some (instr.PcRelative (record {
+      imm21 = bits word 23 5 * 4 + bits word 30 29;
       page = page;
-      offset = if page then sign_extended (imm * 4096) 33 else sign_extended imm 21;
       rd = reg word 0;
     }))
 
@@ -28,7 +27,8 @@ add_immediate word =
       width = width word;
       op = add_op word;
       set_flags = bit word 29;
-      immediate = if bit word 22 then bits word 21 10 * 4096 else bits word 21 10;
+      shifted = bit word 22;
+      imm12 = bits word 21 10;
       rn = reg word 5;
       rd = reg word 0;
     }))
@@ -37,13 +37,14 @@ add_immediate word =
 abbrev pub logical_immediate : ℕ → Option Instr
 logical_immediate word =
     let n = bits word 22 22 in
-    let immr = bits word 21 16 in
     let imms = bits word 15 10 in
     if is_pattern (width word) n imms
     then Some (instr.LogicalImmediate (record {
       width = width word;
       op = logical_op (bits word 30 29);
-      immediate = low (width word) (pattern (element_size n imms) immr imms);
+      n = n;
+      immr = bits word 21 16;
+      imms = imms;
       rn = reg word 5;
       rd = reg word 0;
     }))
@@ -64,8 +65,8 @@ move_wide word =
     then option_map (λ op. instr.MoveWide (record {
       width = width word;
       op = op;
-      hw = hw;
       imm16 = bits word 20 5;
+      hw = hw;
       rd = reg word 0;
     })) (move_wide_op (bits word 30 29))
     else None
@@ -101,7 +102,7 @@ extract word =
     if (bits word 22 22 == bits word 31 31) && nat_lt imms (width_bits (width word))
     then Some (instr.Extract (record {
       width = width word;
-      lowest = imms;
+      imms = imms;
       rm = reg word 16;
       rn = reg word 5;
       rd = reg word 0;

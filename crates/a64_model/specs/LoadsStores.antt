@@ -1,9 +1,9 @@
 -- Loads and Stores (DDI 0487, C4.1): the fields of each row, or none where its condition fails.
-use Rattle.std.specs.Prelude.{ℕ, ◌≡◌, ◌*◌, ◌<◌, Bool, true, false, ◌&&◌, ◌||◌, ◌==◌, Option, Some, None, if◌then◌else◌}
+use Rattle.std.specs.Prelude.{ℕ, ◌≡◌, ◌<◌, Bool, true, false, ◌&&◌, ◌||◌, ◌==◌, Option, Some, None, if◌then◌else◌}
 use Rattle.std.specs.Option.{option_map}
 use Rattle.std.proofs.Math.Bool.{not}
-use Rattle.a64_model.specs.Bits.{bit, bits, sign_extended}
-use Rattle.a64_model.specs.Operands.{reg, is_same, is_31, size, size_bytes, size_log, extend}
+use Rattle.a64_model.specs.Bits.{bit, bits}
+use Rattle.a64_model.specs.Operands.{reg, is_same, is_31, size, extend}
 use Rattle.a64_model.specs.declared.instr.Instr.{Instr}
 use Rattle.a64_model.specs.declared.instr.Instr.TheVariants as instr
 use Rattle.a64_model.specs.declared.operands.Reg.{Reg}
@@ -51,36 +51,35 @@ may_write_back _ rn rt = is_31 rn || not (is_same rn rt)
 
 -- ---- the rows
 
--- Load/store register (unsigned immediate): imm12 21 to 10 counts accesses
+-- Load/store register (unsigned immediate): imm12 21 to 10
 abbrev pub load_store_unsigned : ℕ → Option Instr
 load_store_unsigned word =
     let s = size (bits word 31 30) in
     option_map (λ t. instr.LoadStoreUnsigned (record {
       size = s;
       transfer = t;
-      offset = bits word 21 10 * size_bytes s;
+      imm12 = bits word 21 10;
       rn = reg word 5;
       rt = reg word 0;
     })) (transfer s (bits word 23 22) true)
 
 -- Load/store register (unscaled immediate), (immediate post-indexed) and (immediate pre-indexed): imm9 20 to 12
--- counts bytes, signed
 abbrev pub load_store_indexed : Indexing → ℕ → Option Instr
 load_store_indexed indexing word =
     let s = size (bits word 31 30) in
     if may_write_back indexing (reg word 5) (reg word 0)
     then option_map (λ t. instr.LoadStoreIndexed (record {
+      imm9 = bits word 20 12;
       size = s;
       transfer = t;
       indexing = indexing;
-      offset = sign_extended (bits word 20 12) 9;
       rn = reg word 5;
       rt = reg word 0;
     })) (transfer s (bits word 23 22) (is_offset indexing))
     else None
 
 -- Load/store register (register offset): option 15 to 13 has to extend 32 or 64 bits, so it is 2, 3, 6 or 7, those
--- with bit 14; bit 12 shifts by the size
+-- with bit 14; bit 12 scales
 abbrev pub load_store_register : ℕ → Option Instr
 load_store_register word =
     let s = size (bits word 31 30) in
@@ -89,7 +88,7 @@ load_store_register word =
       size = s;
       transfer = t;
       extend = extend (bits word 15 13);
-      amount = if bit word 12 then size_log s else 0;
+      scaled = bit word 12;
       rm = reg word 16;
       rn = reg word 5;
       rt = reg word 0;
@@ -103,12 +102,12 @@ literal_kind opc =
     if opc == 1 then literals.Double else (
     if opc == 2 then literals.SignedWord else literals.Prefetch))
 
--- Load register (literal): imm19 23 to 5 counts instructions, signed
+-- Load register (literal): imm19 23 to 5
 abbrev pub load_literal : ℕ → Option Instr
 load_literal word =
     Some (instr.LoadLiteral (record {
+      imm19 = bits word 23 5;
       kind = literal_kind (bits word 31 30);
-      offset = sign_extended (bits word 23 5 * 4) 21;
       rt = reg word 0;
     }))
 
@@ -118,11 +117,6 @@ pair_kind opc load =
     if opc == 0 then Some pairs.Word else (
     if opc == 2 then Some pairs.Double else (
     if opc == 1 && load then Some pairs.SignedWord else None))
-
--- imm7 counts registers, signed
-abbrev pub pair_offset : PairKind → ℕ → ℕ
-pair_offset pairs.Double imm7 = sign_extended (imm7 * 8) 10
-pair_offset _ imm7 = sign_extended (imm7 * 4) 9
 
 -- a load into two registers has two different ones
 abbrev pub may_pair : Bool → Reg → Reg → Bool
@@ -140,7 +134,7 @@ load_store_pair indexing word =
       kind = kind;
       load = load;
       indexing = indexing;
-      offset = pair_offset kind (bits word 21 15);
+      imm7 = bits word 21 15;
       rt2 = rt2;
       rn = rn;
       rt = rt;

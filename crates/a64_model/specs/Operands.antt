@@ -40,32 +40,9 @@ abbrev pub width_bits : Width → ℕ
 width_bits W = 32
 width_bits X = 64
 
--- 2 to the number of bits
-abbrev pub modulus : Width → ℕ
-modulus W = 2 ^ 32
-modulus X = 2 ^ 64
-
--- what is left of a number in the width
-abbrev pub low : Width → ℕ → ℕ
-low w n = n % modulus w
-
 -- size: the binary logarithm of the number of bytes
 abbrev pub size : ℕ → Size
 size n = if n == 0 then Byte else (if n == 1 then Half else (if n == 2 then Word else Double))
-
--- the number of bytes of a size
-abbrev pub size_bytes : Size → ℕ
-size_bytes Byte = 1
-size_bytes Half = 2
-size_bytes Word = 4
-size_bytes Double = 8
-
--- the binary logarithm of the number of bytes of a size
-abbrev pub size_log : Size → ℕ
-size_log Byte = 0
-size_log Half = 1
-size_log Word = 2
-size_log Double = 3
 
 -- cond: the condition of a number of four bits (DDI 0487, C1.2.4)
 abbrev pub condition : ℕ → Condition

@@ -1,7 +1,7 @@
 -- The widths of the fields of an instruction, and the conditions of its row.
-use Rattle.std.specs.Prelude.{ℕ, ◌*◌, ◌^◌, ◌<◌, ◌≤◌, Bool, true, false, IsTrue, if◌then◌else◌}
-use Rattle.a64_model.specs.Bits.{is_signed}
-use Rattle.a64_model.specs.Operands.{width_bits, modulus}
+use Rattle.std.specs.Prelude.{ℕ, ◌*◌, ◌^◌, ◌<◌, ◌≤◌, Bool, true, false, IsTrue}
+use Rattle.a64_model.specs.BitMasks.{is_pattern}
+use Rattle.a64_model.specs.Operands.{width_bits}
 use Rattle.a64_model.specs.LoadsStores.{is_offset, may_write_back, may_pair, may_take_status}
 use Rattle.a64_model.specs.declared.instr.Instr.{Instr}
 use Rattle.a64_model.specs.declared.instr.Instr.TheVariants as instr
@@ -52,29 +52,27 @@ is_pair_kind _ load = true
 
 -- the fields have the widths of their row and meet its condition
 abbrev pub HasWidths : Instr → Type 0
-HasWidths (instr.PcRelative i) = IsTrue (is_signed i.offset (if i.page then 33 else 21))
-HasWidths (instr.AddImmediate i) = i.immediate < 2 ^ 24
-HasWidths (instr.LogicalImmediate i) = i.immediate < modulus i.width
-HasWidths (instr.MoveWide i) = (i.hw * 16 < width_bits i.width) × (i.imm16 < 2 ^ 16)
+HasWidths (instr.PcRelative i) = i.imm21 < 2 ^ 21
+HasWidths (instr.AddImmediate i) = i.imm12 < 2 ^ 12
+HasWidths (instr.LogicalImmediate i) = (i.n < 2) × (i.immr < 2 ^ 6) × (i.imms < 2 ^ 6) × IsTrue (is_pattern i.width i.n i.imms)
+HasWidths (instr.MoveWide i) = (i.imm16 < 2 ^ 16) × (i.hw * 16 < width_bits i.width)
 HasWidths (instr.Bitfield i) = (i.immr < width_bits i.width) × (i.imms < width_bits i.width)
-HasWidths (instr.Extract i) = i.lowest < width_bits i.width
-HasWidths (instr.Branch i) = IsTrue (is_signed i.offset 28)
-HasWidths (instr.BranchConditional i) = IsTrue (is_signed i.offset 21)
-HasWidths (instr.CompareBranch i) = IsTrue (is_signed i.offset 21)
-HasWidths (instr.TestBranch i) = (i.bit_number < 64) × IsTrue (is_signed i.offset 16)
+HasWidths (instr.Extract i) = i.imms < width_bits i.width
+HasWidths (instr.Branch i) = i.imm26 < 2 ^ 26
+HasWidths (instr.BranchConditional i) = i.imm19 < 2 ^ 19
+HasWidths (instr.CompareBranch i) = i.imm19 < 2 ^ 19
+HasWidths (instr.TestBranch i) = (i.bit_number < 64) × (i.imm14 < 2 ^ 14)
 HasWidths (instr.LogicalShifted i) = i.amount < width_bits i.width
 HasWidths (instr.AddShifted i) = IsTrue (is_plain_shift i.shift) × (i.amount < width_bits i.width)
 HasWidths (instr.AddExtended i) = i.amount ≤ 4
 HasWidths (instr.ConditionalCompare i) = HasComparandWidth i.comparand × (i.nzcv < 2 ^ 4)
-HasWidths (instr.LoadStoreUnsigned i) = IsTrue (may_transfer i.size i.transfer true) × (i.offset < 2 ^ 15)
+HasWidths (instr.LoadStoreUnsigned i) = (i.imm12 < 2 ^ 12) × IsTrue (may_transfer i.size i.transfer true)
 HasWidths (instr.LoadStoreIndexed i) =
-    IsTrue (may_transfer i.size i.transfer (is_offset i.indexing)) × IsTrue (is_signed i.offset 9)
-    × IsTrue (may_write_back i.indexing i.rn i.rt)
-HasWidths (instr.LoadStoreRegister i) =
-    IsTrue (may_transfer i.size i.transfer true) × IsTrue (is_wide_extend i.extend) × (i.amount ≤ 3)
-HasWidths (instr.LoadLiteral i) = IsTrue (is_signed i.offset 21)
+    (i.imm9 < 2 ^ 9) × IsTrue (may_transfer i.size i.transfer (is_offset i.indexing)) × IsTrue (may_write_back i.indexing i.rn i.rt)
+HasWidths (instr.LoadStoreRegister i) = IsTrue (may_transfer i.size i.transfer true) × IsTrue (is_wide_extend i.extend)
+HasWidths (instr.LoadLiteral i) = i.imm19 < 2 ^ 19
 HasWidths (instr.LoadStorePair i) =
-    IsTrue (is_pair_kind i.kind i.load) × IsTrue (is_signed i.offset 10) × IsTrue (may_write_back i.indexing i.rn i.rt)
+    (i.imm7 < 2 ^ 7) × IsTrue (is_pair_kind i.kind i.load) × IsTrue (may_write_back i.indexing i.rn i.rt)
     × IsTrue (may_write_back i.indexing i.rn i.rt2) × IsTrue (may_pair i.load i.rt i.rt2)
 HasWidths (instr.StoreExclusive i) = IsTrue (may_take_status i.rs i.rt i.rn)
 HasWidths _ = Unit {0}

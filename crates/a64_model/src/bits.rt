@@ -1,6 +1,6 @@
 //! Fields of an instruction word.
-ghost use Rattle.std.specs.Prelude.{◌≡◌, ◌^◌, ◌<◌, ◌≤◌};
-ghost use Rattle.a64_model.specs.Bits.{bit, bits, sign_extended};
+ghost use Rattle.std.specs.Prelude.{◌≡◌, ◌<◌, ◌≤◌};
+ghost use Rattle.a64_model.specs.Bits.{bit, bits};
 
 /// The bits `high` down to `low` of a word, as a number.
 pub fn bits(word: u32, high: u32, low: u32) -> u32
@@ -17,19 +17,4 @@ pub fn bit(word: u32, at: u32) -> bool
     ensures { result ≡ bit word at }
 {
     (word >> at) & 1 == 1
-}
-
-/// A number of `count` bits that are read with a sign, in 64 bits.
-pub fn sign_extended(n: u64, count: u32) -> u64
-    requires some { 0 < count }
-    requires in_range { count < 64 }
-    requires fits { n < 2 ^ count }
-    ensures { result ≡ sign_extended n count }
-{
-    let size = 1u64 << count;
-    if n < size / 2 {
-        n
-    } else {
-        n + (u64::MAX - size + 1)
-    }
 }

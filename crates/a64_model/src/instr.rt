@@ -1,6 +1,7 @@
 //! The instructions: one variant for each row class, with its fields. `rd` and `rt` are the registers written (or
 //! stored), `rn` the first source or the base, `rm` the second source, `ra` the addend, `rs` the register of an
-//! exclusive or atomic access, `rt2` the second of a pair. Every `offset` is a signed number of bytes modulo 2^64.
+//! exclusive or atomic access, `rt2` the second of a pair. An immediate `immN` is the field of N bits as it stands in the
+//! word. The larger fields stand first, since an instruction is moved about often and is to be small: 12 bytes.
 
 use crate::operands::{
     AddOp, AtomicOp, BitfieldOp, BranchKind, Comparand, Condition, Extend, Indexing, LiteralKind,
@@ -10,31 +11,34 @@ use crate::operands::{
 
 // Data processing -- immediate
 
-/// ADR, and ADRP where it goes from the start of this instruction's 4096-byte page.
+/// ADR, and ADRP, which goes by pages from the page of this instruction. The immediate is signed.
 #[derive(Clone, Copy)]
 pub struct PcRelative {
+    pub imm21: u32,
     pub page: bool,
-    pub offset: u64,
     pub rd: Reg,
 }
 
-/// ADD, ADDS, SUB and SUBS (immediate).
+/// ADD, ADDS, SUB and SUBS (immediate). The immediate may be shifted left by 12.
 #[derive(Clone, Copy)]
 pub struct AddImmediate {
     pub width: Width,
     pub op: AddOp,
     pub set_flags: bool,
-    pub immediate: u32,
+    pub shifted: bool,
+    pub imm12: u16,
     pub rn: Reg,
     pub rd: Reg,
 }
 
-/// AND, ORR, EOR and ANDS (immediate).
+/// AND, ORR, EOR and ANDS (immediate). N, immr and imms are those of a pattern of bits.
 #[derive(Clone, Copy)]
 pub struct LogicalImmediate {
     pub width: Width,
     pub op: LogicalOp,
-    pub immediate: u64,
+    pub n: u8,
+    pub immr: u8,
+    pub imms: u8,
     pub rn: Reg,
     pub rd: Reg,
 }
@@ -44,8 +48,8 @@ pub struct LogicalImmediate {
 pub struct MoveWide {
     pub width: Width,
     pub op: MoveWideOp,
-    pub hw: u8,
     pub imm16: u16,
+    pub hw: u8,
     pub rd: Reg,
 }
 
@@ -60,11 +64,11 @@ pub struct Bitfield {
     pub rd: Reg,
 }
 
-/// EXTR: the bits of `rn` and then `rm`, from bit `lowest` of `rm` on.
+/// EXTR.
 #[derive(Clone, Copy)]
 pub struct Extract {
     pub width: Width,
-    pub lowest: u8,
+    pub imms: u8,
     pub rm: Reg,
     pub rn: Reg,
     pub rd: Reg,
@@ -72,35 +76,35 @@ pub struct Extract {
 
 // Branches, exception generating and system instructions
 
-/// B, and BL where it links.
+/// B, and BL where it links. The immediate is signed and counts instructions.
 #[derive(Clone, Copy)]
 pub struct Branch {
+    pub imm26: u32,
     pub link: bool,
-    pub offset: u64,
 }
 
-/// B.cond.
+/// B.cond. The immediate is signed and counts instructions.
 #[derive(Clone, Copy)]
 pub struct BranchConditional {
+    pub imm19: u32,
     pub condition: Condition,
-    pub offset: u64,
 }
 
-/// CBZ and CBNZ.
+/// CBZ, and CBNZ, which branches where the register is not 0. The immediate is signed and counts instructions.
 #[derive(Clone, Copy)]
 pub struct CompareBranch {
+    pub imm19: u32,
     pub width: Width,
     pub nonzero: bool,
-    pub offset: u64,
     pub rt: Reg,
 }
 
-/// TBZ, and TBNZ, which branches where the bit is set.
+/// TBZ, and TBNZ, which branches where the bit is set. The immediate is signed and counts instructions.
 #[derive(Clone, Copy)]
 pub struct TestBranch {
     pub set: bool,
     pub bit_number: u8,
-    pub offset: u64,
+    pub imm14: u16,
     pub rt: Reg,
 }
 
@@ -256,54 +260,56 @@ pub struct MultiplyHigh {
 
 // Loads and stores
 
-/// LDR, LDRB, LDRH, LDRSB, LDRSH, LDRSW, PRFM, STR, STRB and STRH (unsigned offset).
+/// LDR, LDRB, LDRH, LDRSB, LDRSH, LDRSW, PRFM, STR, STRB and STRH (unsigned offset). The immediate counts accesses of
+/// this size.
 #[derive(Clone, Copy)]
 pub struct LoadStoreUnsigned {
     pub size: Size,
     pub transfer: Transfer,
-    pub offset: u64,
+    pub imm12: u16,
     pub rn: Reg,
     pub rt: Reg,
 }
 
-/// LDUR, PRFUM, STUR and their kin, and LDR, STR and their kin with post-index and pre-index.
+/// LDUR, PRFUM, STUR and their kin, and LDR, STR and their kin with post-index and pre-index. The immediate is signed
+/// and counts bytes.
 #[derive(Clone, Copy)]
 pub struct LoadStoreIndexed {
+    pub imm9: u16,
     pub size: Size,
     pub transfer: Transfer,
     pub indexing: Indexing,
-    pub offset: u64,
     pub rn: Reg,
     pub rt: Reg,
 }
 
-/// LDR, PRFM, STR and their kin (register offset). The extended register is shifted left by the amount.
+/// LDR, PRFM, STR and their kin (register offset). The extended register may count accesses of this size.
 #[derive(Clone, Copy)]
 pub struct LoadStoreRegister {
     pub size: Size,
     pub transfer: Transfer,
     pub extend: Extend,
-    pub amount: u8,
+    pub scaled: bool,
     pub rm: Reg,
     pub rn: Reg,
     pub rt: Reg,
 }
 
-/// LDR, LDRSW and PRFM (literal). The offset is from this instruction.
+/// LDR, LDRSW and PRFM (literal). The immediate is signed and counts instructions from this one.
 #[derive(Clone, Copy)]
 pub struct LoadLiteral {
+    pub imm19: u32,
     pub kind: LiteralKind,
-    pub offset: u64,
     pub rt: Reg,
 }
 
-/// LDP, LDPSW and STP.
+/// LDP, LDPSW and STP. The immediate is signed and counts registers.
 #[derive(Clone, Copy)]
 pub struct LoadStorePair {
     pub kind: PairKind,
     pub load: bool,
     pub indexing: Indexing,
-    pub offset: u64,
+    pub imm7: u8,
     pub rt2: Reg,
     pub rn: Reg,
     pub rt: Reg,

@@ -4,7 +4,7 @@ ghost use Rattle.a64_model.specs.Branches.{branch, branch_conditional, compare_b
 ghost use Rattle.a64_model.specs.Widths.{HasWidths};
 
 use super::operands::{condition, reg, width};
-use crate::bits::{bits, sign_extended};
+use crate::bits::bits;
 use crate::instr::{
     Branch, BranchConditional, BranchRegister, CompareBranch, Instr, ReadThreadPointer, TestBranch,
     WriteThreadPointer,
@@ -15,18 +15,19 @@ pub fn branch(link: bool, word: u32) -> Option<Instr>
     ensures value { result ≡ branch link word }
     ensures widths { IfSome result HasWidths }
 {
-    let offset = sign_extended(bits(word, 25, 0) as u64 * 4, 28);
-    Some(Instr::Branch(Branch { link, offset }))
+    Some(Instr::Branch(Branch {
+        imm26: bits(word, 25, 0),
+        link,
+    }))
 }
 
 pub fn branch_conditional(word: u32) -> Option<Instr>
     ensures value { result ≡ branch_conditional word }
     ensures widths { IfSome result HasWidths }
 {
-    let offset = sign_extended(bits(word, 23, 5) as u64 * 4, 21);
     Some(Instr::BranchConditional(BranchConditional {
+        imm19: bits(word, 23, 5),
         condition: condition(bits(word, 3, 0)),
-        offset,
     }))
 }
 
@@ -34,11 +35,10 @@ pub fn compare_branch(nonzero: bool, word: u32) -> Option<Instr>
     ensures value { result ≡ compare_branch nonzero word }
     ensures widths { IfSome result HasWidths }
 {
-    let offset = sign_extended(bits(word, 23, 5) as u64 * 4, 21);
     Some(Instr::CompareBranch(CompareBranch {
+        imm19: bits(word, 23, 5),
         width: width(word),
         nonzero,
-        offset,
         rt: reg(word, 0),
     }))
 }
@@ -47,12 +47,11 @@ pub fn test_branch(set: bool, word: u32) -> Option<Instr>
     ensures value { result ≡ test_branch set word }
     ensures widths { IfSome result HasWidths }
 {
-    let offset = sign_extended(bits(word, 18, 5) as u64 * 4, 16);
     let bit_number = (bits(word, 31, 31) * 32 + bits(word, 23, 19)) as u8;
     Some(Instr::TestBranch(TestBranch {
         set,
         bit_number,
-        offset,
+        imm14: bits(word, 18, 5) as u16,
         rt: reg(word, 0),
     }))
 }

@@ -1,32 +1,23 @@
 //! Data processing with immediates.
 ghost use Rattle.std.specs.Prelude.{◌≡◌, ◌*◌, ◌^◌, ◌<◌, ◌≤◌, IsTrue, IfSome};
-ghost use Rattle.a64_model.specs.BitMasks.{element_log, element_size, is_pattern, pattern};
+ghost use Rattle.a64_model.specs.BitMasks.{element_log, element_size, is_pattern};
 ghost use Rattle.a64_model.specs.Immediates.{pc_relative, add_immediate, logical_immediate, move_wide_op, move_wide, bitfield_op, bitfield, extract};
 ghost use Rattle.a64_model.specs.Widths.{HasWidths};
 
-use super::operands::{add_op, logical_op, low, reg, width, width_bits};
-use crate::bits::{bit, bits, sign_extended};
+use super::operands::{add_op, logical_op, reg, width, width_bits};
+use crate::bits::{bit, bits};
 use crate::instr::{
     AddImmediate, Bitfield, Extract, Instr, LogicalImmediate, MoveWide, PcRelative,
 };
 use crate::operands::{BitfieldOp, MoveWideOp, Width};
 
-/// What an ADRP counts in bytes.
-const PAGE: u64 = 4096;
-
 pub fn pc_relative(page: bool, word: u32) -> Option<Instr>
     ensures value { result ≡ pc_relative page word }
     ensures widths { IfSome result HasWidths }
 {
-    let imm = bits(word, 23, 5) as u64 * 4 + bits(word, 30, 29) as u64;
-    let offset = if page {
-        sign_extended(imm * PAGE, 33)
-    } else {
-        sign_extended(imm, 21)
-    };
     Some(Instr::PcRelative(PcRelative {
+        imm21: bits(word, 23, 5) * 4 + bits(word, 30, 29),
         page,
-        offset,
         rd: reg(word, 0),
     }))
 }
@@ -35,12 +26,12 @@ pub fn add_immediate(word: u32) -> Option<Instr>
     ensures value { result ≡ add_immediate word }
     ensures widths { IfSome result HasWidths }
 {
-    let imm12 = bits(word, 21, 10);
     Some(Instr::AddImmediate(AddImmediate {
         width: width(word),
         op: add_op(word),
         set_flags: bit(word, 29),
-        immediate: if bit(word, 22) { imm12 * 4096 } else { imm12 },
+        shifted: bit(word, 22),
+        imm12: bits(word, 21, 10) as u16,
         rn: reg(word, 5),
         rd: reg(word, 0),
     }))
@@ -81,18 +72,6 @@ fn is_pattern(width: Width, n: u32, imms: u32) -> bool
     may_have && 1 <= element_log(n, imms) && imms % size != size - 1
 }
 
-/// Elements of `size` bits: ones, rotated right and repeated over 64 bits.
-fn pattern(size: u32, immr: u32, imms: u32) -> u64
-    requires some { 1 < size }
-    requires in_word { size ≤ 64 }
-    ensures { result ≡ pattern size immr imms }
-{
-    let ones = (1u128 << (imms % size + 1)) - 1;
-    let mask = (1u128 << size) - 1;
-    let element = (((ones << size) + ones) >> (immr % size)) & mask;
-    element as u64 * (u64::MAX / mask as u64)
-}
-
 pub fn logical_immediate(word: u32) -> Option<Instr>
     ensures value { result ≡ logical_immediate word }
     ensures widths { IfSome result HasWidths }
@@ -103,11 +82,12 @@ pub fn logical_immediate(word: u32) -> Option<Instr>
     if !is_pattern(width, n, imms) {
         return None;
     }
-    let size = element_size(n, imms);
     Some(Instr::LogicalImmediate(LogicalImmediate {
         width,
         op: logical_op(bits(word, 30, 29)),
-        immediate: low(width, pattern(size, bits(word, 21, 16), imms)),
+        n: n as u8,
+        immr: bits(word, 21, 16) as u8,
+        imms: imms as u8,
         rn: reg(word, 5),
         rd: reg(word, 0),
     }))
@@ -137,8 +117,8 @@ pub fn move_wide(word: u32) -> Option<Instr>
     Some(Instr::MoveWide(MoveWide {
         width,
         op,
-        hw: hw as u8,
         imm16: bits(word, 20, 5) as u16,
+        hw: hw as u8,
         rd: reg(word, 0),
     }))
 }
@@ -183,13 +163,13 @@ pub fn extract(word: u32) -> Option<Instr>
     ensures widths { IfSome result HasWidths }
 {
     let width = width(word);
-    let lowest = bits(word, 15, 10);
-    if bits(word, 22, 22) != bits(word, 31, 31) || lowest >= width_bits(width) {
+    let imms = bits(word, 15, 10);
+    if bits(word, 22, 22) != bits(word, 31, 31) || imms >= width_bits(width) {
         return None;
     }
     Some(Instr::Extract(Extract {
         width,
-        lowest: lowest as u8,
+        imms: imms as u8,
         rm: reg(word, 16),
         rn: reg(word, 5),
         rd: reg(word, 0),

@@ -1,11 +1,10 @@
 //! Loads and stores.
 ghost use Rattle.std.specs.Prelude.{◌≡◌, ◌<◌, ◌≤◌, ◌^◌, IsTrue, IfSome};
-ghost use Rattle.a64_model.specs.LoadsStores.{is_offset, transfer, may_write_back, load_store_unsigned, load_store_indexed, load_store_register, literal_kind, load_literal, pair_kind, pair_offset, may_pair, load_store_pair, may_take_status, store_exclusive, load_exclusive, store_ordered, load_ordered, compare_swap, atomic};
-ghost use Rattle.a64_model.specs.Bits.{is_signed};
+ghost use Rattle.a64_model.specs.LoadsStores.{is_offset, transfer, may_write_back, load_store_unsigned, load_store_indexed, load_store_register, literal_kind, load_literal, pair_kind, may_pair, load_store_pair, may_take_status, store_exclusive, load_exclusive, store_ordered, load_ordered, compare_swap, atomic};
 ghost use Rattle.a64_model.specs.Widths.{HasWidths, may_transfer, is_pair_kind, is_wide_extend};
 
-use super::operands::{extend, is_31, is_same, reg, size, size_bytes, size_log};
-use crate::bits::{bit, bits, sign_extended};
+use super::operands::{extend, is_31, is_same, reg, size};
+use crate::bits::{bit, bits};
 use crate::instr::{
     Atomic, CompareSwap, Instr, LoadExclusive, LoadLiteral, LoadOrdered, LoadStoreIndexed,
     LoadStorePair, LoadStoreRegister, LoadStoreUnsigned, StoreExclusive, StoreOrdered,
@@ -60,11 +59,10 @@ pub fn load_store_unsigned(word: u32) -> Option<Instr>
 {
     let size = size(bits(word, 31, 30));
     let transfer = transfer(size, bits(word, 23, 22), true)?;
-    let offset = bits(word, 21, 10) as u64 * size_bytes(size);
     Some(Instr::LoadStoreUnsigned(LoadStoreUnsigned {
         size,
         transfer,
-        offset,
+        imm12: bits(word, 21, 10) as u16,
         rn: reg(word, 5),
         rt: reg(word, 0),
     }))
@@ -81,12 +79,11 @@ pub fn load_store_indexed(indexing: Indexing, word: u32) -> Option<Instr>
     }
     let size = size(bits(word, 31, 30));
     let transfer = transfer(size, bits(word, 23, 22), is_offset(indexing))?;
-    let offset = sign_extended(bits(word, 20, 12) as u64, 9);
     Some(Instr::LoadStoreIndexed(LoadStoreIndexed {
+        imm9: bits(word, 20, 12) as u16,
         size,
         transfer,
         indexing,
-        offset,
         rn,
         rt,
     }))
@@ -105,7 +102,7 @@ pub fn load_store_register(word: u32) -> Option<Instr>
         size,
         transfer,
         extend: extend(bits(word, 15, 13)),
-        amount: if bit(word, 12) { size_log(size) } else { 0 },
+        scaled: bit(word, 12),
         rm: reg(word, 16),
         rn: reg(word, 5),
         rt: reg(word, 0),
@@ -127,10 +124,9 @@ pub fn load_literal(word: u32) -> Option<Instr>
     ensures value { result ≡ load_literal word }
     ensures widths { IfSome result HasWidths }
 {
-    let offset = sign_extended(bits(word, 23, 5) as u64 * 4, 21);
     Some(Instr::LoadLiteral(LoadLiteral {
+        imm19: bits(word, 23, 5),
         kind: literal_kind(bits(word, 31, 30)),
-        offset,
         rt: reg(word, 0),
     }))
 }
@@ -144,18 +140,6 @@ fn pair_kind(opc: u32, load: bool) -> Option<PairKind>
         2 => Some(PairKind::Double),
         1 if load => Some(PairKind::SignedWord),
         _ => None,
-    }
-}
-
-/// The offset of a pair, which counts registers.
-fn pair_offset(kind: PairKind, imm7: u32) -> u64
-    requires { imm7 < 2 ^ 7 }
-    ensures value { result ≡ pair_offset kind imm7 }
-    ensures signed { IsTrue (is_signed result 10) }
-{
-    match kind {
-        PairKind::Double => sign_extended(imm7 as u64 * 8, 10),
-        PairKind::Word | PairKind::SignedWord => sign_extended(imm7 as u64 * 4, 9),
     }
 }
 
@@ -181,12 +165,11 @@ pub fn load_store_pair(indexing: Indexing, word: u32) -> Option<Instr>
         return None;
     }
     let kind = pair_kind(bits(word, 31, 30), load)?;
-    let offset = pair_offset(kind, bits(word, 21, 15));
     Some(Instr::LoadStorePair(LoadStorePair {
         kind,
         load,
         indexing,
-        offset,
+        imm7: bits(word, 21, 15) as u8,
         rt2,
         rn,
         rt,

@@ -1,6 +1,6 @@
 //! The operands that many rows have.
 ghost use Rattle.std.specs.Prelude.{◌≡◌, ◌<◌, ◌↔◌, IsTrue};
-ghost use Rattle.a64_model.specs.Operands.{reg, is_same, is_31, width, width_bits, modulus, low, size, size_bytes, size_log, condition, shift, extend, add_op, logical_op};
+ghost use Rattle.a64_model.specs.Operands.{reg, is_same, is_31, width, width_bits, size, condition, shift, extend, add_op, logical_op};
 
 use crate::bits::{bit, bits};
 use crate::operands::{AddOp, Condition, Extend, LogicalOp, Reg, ShiftKind, Size, Width};
@@ -46,17 +46,6 @@ pub fn width_bits(width: Width) -> u32
     }
 }
 
-/// What is left of a number in the width.
-pub fn low(width: Width, n: u64) -> u64
-    ensures value { result ≡ low width n }
-    ensures fits { result < modulus width }
-{
-    match width {
-        Width::W => n & 0xFFFF_FFFF,
-        Width::X => n,
-    }
-}
-
 /// The size whose number of bytes is 2 to this number.
 pub fn size(n: u32) -> Size
     ensures { result ≡ size n }
@@ -66,30 +55,6 @@ pub fn size(n: u32) -> Size
         1 => Size::Half,
         2 => Size::Word,
         _ => Size::Double,
-    }
-}
-
-/// The number of bytes of a size.
-pub fn size_bytes(size: Size) -> u64
-    ensures { result ≡ size_bytes size }
-{
-    match size {
-        Size::Byte => 1,
-        Size::Half => 2,
-        Size::Word => 4,
-        Size::Double => 8,
-    }
-}
-
-/// The binary logarithm of the number of bytes of a size.
-pub fn size_log(size: Size) -> u8
-    ensures { result ≡ size_log size }
-{
-    match size {
-        Size::Byte => 0,
-        Size::Half => 1,
-        Size::Word => 2,
-        Size::Double => 3,
     }
 }
 
