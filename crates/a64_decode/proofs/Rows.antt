@@ -1,5 +1,5 @@
 -- What the tests of a decoder tell about the rows that a word can fit.
-use Rattle.std.proofs.Common.{◌≡◌, ◌≢◌, ℕ, Bool, true, false, ◌||◌, ◌&&◌, bit_and, eqb, List, [], ◌∷◌, Option, Some, None, cond, refl, ap, ◌∙◌, sym, inl, inr, ◌⊎◌}
+use Rattle.std.proofs.Common.{◌≡◌, ◌≢◌, ℕ, Bool, true, false, ◌||◌, ◌&&◌, bit_and, eqb, List, [], ◌∷◌, Option, option_and_then, Some, None, cond, refl, ap, ◌∙◌, sym, inl, inr, ◌⊎◌}
 use Rattle.std.specs.List.{list_all, list_any, find}
 use Rattle.std.specs.Option.{option_map}
 use Rattle.std.specs.Int.Bits.{and_self}
@@ -9,7 +9,9 @@ use Rattle.std.proofs.lemmas.Bool.{eqb-true, eqb-false, ne_eqb, or_cases, not-tr
 use Rattle.a64_model.specs.declared.rows.Row.{Row}
 use Rattle.a64_model.specs.declared.rows.Form.{Form}
 use Rattle.a64_model.specs.declared.rows.TheConstants.{ROWS}
-use Rattle.a64_model.specs.Rows.{fits, form_among, form_of}
+use Rattle.a64_model.specs.declared.instr.Instr.{Instr}
+use Rattle.a64_model.specs.Fields.{fields}
+use Rattle.a64_model.specs.Rows.{fits, form_among, form_of, row}
 
 -- the order of two masks is free
 and_swap : (a b c : ℕ) → bit_and (bit_and a b) c ≡ bit_and (bit_and a c) b
@@ -65,10 +67,11 @@ no_row_among known word (r ∷ rows) all h =
     ap (λ b. cond b (Some r) (find (fits word) rows)) (ne_eqb (bit_and word r.mask) r.value (refused word r known all parts.0))
     ∙ no_row_among known word rows all parts.1
 
--- a word fits no row where what is known of it refuses each row of the table
-pub no_row : (known : List Known) (word : ℕ) → HoldAll word known → list_all (is_refused known) ROWS ≡ true → None ≡ form_of word
+-- a word has no row where what is known of it refuses each row of the table
+pub no_row : (known : List Known) (word : ℕ) → HoldAll word known → list_all (is_refused known) ROWS ≡ true → None ≡ row word
 unfolding form_of
-no_row known word all h = sym (ap (option_map (λ r. r.form)) (no_row_among known word ROWS all h))
+no_row known word all h =
+    sym (ap (λ found. option_and_then (λ f. fields f word) (option_map (λ r. r.form) found)) (no_row_among known word ROWS all h))
 
 -- the bits under the mask m decide whether a word with the value v there fits the row
 abbrev pub is_decided : ℕ → ℕ → Row → Bool
@@ -92,7 +95,10 @@ decided m v word (r ∷ rows) e h =
     ap (λ b. cond b (Some r) (find (fits word) rows)) (decided_row m v word r e parts.0)
     ∙ ap (λ o. cond (fits v r) (Some r) o) (decided m v word rows e parts.1)
 
--- where the bits under m decide each row of the table, a word with the value v there has the form of v
-pub form_at : (m v word : ℕ) (f : Option Form) → bit_and word m ≡ v → list_all (is_decided m v) ROWS ≡ true → form_among ROWS v ≡ f → f ≡ form_of word
+-- where the bits under m decide each row of the table, a word with the value v there has the form of v, and its fields
+pub row_at : (m v word : ℕ) (f : Form) {i : Option Instr} → bit_and word m ≡ v → list_all (is_decided m v) ROWS ≡ true →
+    form_among ROWS v ≡ Some f → i ≡ fields f word → i ≡ row word
 unfolding form_of
-form_at m v word f e h at = sym (ap (option_map (λ r. r.form)) (decided m v word ROWS e h) ∙ at)
+row_at m v word f e h at read =
+    let form_is : form_among ROWS word ≡ Some f = ap (option_map (λ r. r.form)) (decided m v word ROWS e h) ∙ at in
+    read ∙ sym (ap (option_and_then (λ f. fields f word)) form_is)

@@ -7,10 +7,10 @@ ghost use Rattle.a64_model.specs.Widths.{HasWidths};
 use crate::instr::Instr;
 use crate::rows::{Form, ROWS, Row};
 
-mod branches;
-mod data_registers;
-mod immediates;
-mod loads_stores;
+pub mod branches;
+pub mod data_registers;
+pub mod immediates;
+pub mod loads_stores;
 mod operands;
 
 use branches::{
