@@ -76,11 +76,11 @@ add_carry word =
 
 -- a comparison under a condition with either operand: 30 is CCMP, cond 15 to 12, nzcv 3 to 0
 abbrev pub conditional_compare : Comparand → ℕ → Option Instr
-conditional_compare with_ word =
+conditional_compare operand word =
     Some (instr.ConditionalCompare (record {
       width = width word;
       op = add_op word;
-      comparand = with_;
+      comparand = operand;
       condition = condition (bits word 15 12);
       nzcv = bits word 3 0;
       rn = reg word 5;
