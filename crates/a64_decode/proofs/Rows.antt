@@ -102,7 +102,3 @@ unfolding form_of
 row_at m v word f e h at read =
     let form_is : form_among ROWS word ≡ Some f = ap (option_map (λ r. r.form)) (decided m v word ROWS e h) ∙ at in
     read ∙ sym (ap (option_and_then (λ f. fields f word)) form_is)
-
--- a mask that lies within another keeps of the bits what it keeps of their value
-pub kept_within : (word m v k : ℕ) → bit_and m k ≡ k → bit_and word m ≡ v → bit_and word k ≡ bit_and v k
-kept_within word m v k within e = sym (and_within word m k within) ∙ ap (λ n. bit_and n k) e

@@ -21,11 +21,15 @@ pub fn decode(word: u32) -> Option<Instr>
     ensures row { result ≡ row word }
     ensures widths { IfSome result HasWidths }
 {
-    match word & 0x1E00_0000 {
-        0x1000_0000 | 0x1200_0000 => immediates::immediate(word),
-        0x1400_0000 | 0x1600_0000 => branches::branch_or_system(word),
-        0x0800_0000 | 0x1800_0000 => loads_stores::load_or_store(word),
-        0x0A00_0000 | 0x1A00_0000 => data_registers::register(word),
-        _ => None,
+    if word & 0x1C00_0000 == 0x1000_0000 {
+        immediates::immediate(word)
+    } else if word & 0x1C00_0000 == 0x1400_0000 {
+        branches::branch_or_system(word)
+    } else if word & 0x0A00_0000 == 0x0800_0000 {
+        loads_stores::load_or_store(word)
+    } else if word & 0x0E00_0000 == 0x0A00_0000 {
+        data_registers::register(word)
+    } else {
+        None
     }
 }
