@@ -1,5 +1,5 @@
 -- Loads and Stores (DDI 0487, C4.1): the fields of each row, or none where its condition fails.
-use Rattle.std.specs.Prelude.{ℕ, ◌≡◌, ◌<◌, Bool, true, false, ◌&&◌, ◌||◌, ◌==◌, Option, Some, None, if◌then◌else◌}
+use Rattle.std.specs.Prelude.{ℕ, Bool, true, false, ◌&&◌, ◌||◌, ◌==◌, Option, Some, None, if◌then◌else◌}
 use Rattle.std.specs.Option.{option_map}
 use Rattle.std.proofs.Math.Bool.{not}
 use Rattle.a64_model.specs.Bits.{bit, bits}
@@ -8,11 +8,11 @@ use Rattle.a64_model.specs.declared.instr.Instr.{Instr}
 use Rattle.a64_model.specs.declared.instr.Instr.TheVariants as instr
 use Rattle.a64_model.specs.declared.operands.Reg.{Reg}
 use Rattle.a64_model.specs.declared.operands.Size.{Size}
-use Rattle.a64_model.specs.declared.operands.Size.TheVariants.{Byte, Half, Word, Double}
+use Rattle.a64_model.specs.declared.operands.Size.TheVariants.{Byte, Half, Double}
 use Rattle.a64_model.specs.declared.operands.Transfer.{Transfer}
 use Rattle.a64_model.specs.declared.operands.Transfer.TheVariants as transfers
 use Rattle.a64_model.specs.declared.operands.Indexing.{Indexing}
-use Rattle.a64_model.specs.declared.operands.Indexing.TheVariants.{Offset, PostIndex, PreIndex}
+use Rattle.a64_model.specs.declared.operands.Indexing.TheVariants.{Offset}
 use Rattle.a64_model.specs.declared.operands.LiteralKind.{LiteralKind}
 use Rattle.a64_model.specs.declared.operands.LiteralKind.TheVariants as literals
 use Rattle.a64_model.specs.declared.operands.PairKind.{PairKind}
