@@ -1,0 +1,11 @@
+pub mod Apart
+pub mod BitMasks
+pub mod Bits
+pub mod Branches
+pub mod DataRegisters
+pub mod Fields
+pub mod Immediates
+pub mod LoadsStores
+pub mod Operands
+pub mod Rows
+pub mod Widths

@@ -1,0 +1,177 @@
+//! Data processing with immediates.
+ghost use Rattle.std.specs.Prelude.{◌≡◌, ◌*◌, ◌^◌, ◌<◌, ◌≤◌, IsTrue, IfSome};
+ghost use Rattle.a64_model.specs.BitMasks.{element_log, element_size, is_pattern};
+ghost use Rattle.a64_model.specs.Immediates.{pc_relative, add_immediate, logical_immediate, move_wide_op, move_wide, bitfield_op, bitfield, extract};
+ghost use Rattle.a64_model.specs.Widths.{HasWidths};
+
+use super::operands::{add_op, logical_op, reg, width, width_bits};
+use crate::bits::{bit, bits};
+use crate::instr::{
+    AddImmediate, Bitfield, Extract, Instr, LogicalImmediate, MoveWide, PcRelative,
+};
+use crate::operands::{BitfieldOp, MoveWideOp, Width};
+
+pub fn pc_relative(page: bool, word: u32) -> Option<Instr>
+    ensures value { result ≡ pc_relative page word }
+    ensures widths { IfSome result HasWidths }
+{
+    Some(Instr::PcRelative(PcRelative {
+        imm21: bits(word, 23, 5) * 4 + bits(word, 30, 29),
+        page,
+        rd: reg(word, 0),
+    }))
+}
+
+pub fn add_immediate(word: u32) -> Option<Instr>
+    ensures value { result ≡ add_immediate word }
+    ensures widths { IfSome result HasWidths }
+{
+    Some(Instr::AddImmediate(AddImmediate {
+        width: width(word),
+        op: add_op(word),
+        set_flags: bit(word, 29),
+        shifted: bit(word, 22),
+        imm12: bits(word, 21, 10) as u16,
+        rn: reg(word, 5),
+        rd: reg(word, 0),
+    }))
+}
+
+/// The binary logarithm of the size of the elements that a logical immediate repeats.
+fn element_log(n: u32, imms: u32) -> u32
+    requires bit { n < 2 }
+    requires six_bits { imms < 64 }
+    ensures value { result ≡ element_log n imms }
+    ensures small { result ≤ 6 }
+{
+    31u32.saturating_sub((n * 64 + (63 - imms)).leading_zeros())
+}
+
+/// The number of bits of those elements.
+fn element_size(n: u32, imms: u32) -> u32
+    requires bit { n < 2 }
+    requires six_bits { imms < 64 }
+    ensures value { result ≡ element_size n imms }
+    ensures in_word { result ≤ 64 }
+    ensures some { 1 ≤ element_log n imms → 1 < result }
+{
+    1 << element_log(n, imms)
+}
+
+/// Whether N and imms are those of a pattern.
+fn is_pattern(width: Width, n: u32, imms: u32) -> bool
+    requires bit { n < 2 }
+    requires six_bits { imms < 64 }
+    ensures { result ≡ is_pattern width n imms }
+{
+    let size = element_size(n, imms);
+    let may_have = match width {
+        Width::W => n == 0,
+        Width::X => true,
+    };
+    may_have && 1 <= element_log(n, imms) && imms % size != size - 1
+}
+
+pub fn logical_immediate(word: u32) -> Option<Instr>
+    ensures value { result ≡ logical_immediate word }
+    ensures widths { IfSome result HasWidths }
+{
+    let width = width(word);
+    let n = bits(word, 22, 22);
+    let imms = bits(word, 15, 10);
+    if !is_pattern(width, n, imms) {
+        return None;
+    }
+    Some(Instr::LogicalImmediate(LogicalImmediate {
+        width,
+        op: logical_op(bits(word, 30, 29)),
+        n: n as u8,
+        immr: bits(word, 21, 16) as u8,
+        imms: imms as u8,
+        rn: reg(word, 5),
+        rd: reg(word, 0),
+    }))
+}
+
+fn move_wide_op(opc: u32) -> Option<MoveWideOp>
+    ensures { result ≡ move_wide_op opc }
+{
+    match opc {
+        0 => Some(MoveWideOp::Not),
+        2 => Some(MoveWideOp::Zero),
+        3 => Some(MoveWideOp::Keep),
+        _ => None,
+    }
+}
+
+pub fn move_wide(word: u32) -> Option<Instr>
+    ensures value { result ≡ move_wide word }
+    ensures widths { IfSome result HasWidths }
+{
+    let width = width(word);
+    let hw = bits(word, 22, 21);
+    if hw * 16 >= width_bits(width) {
+        return None;
+    }
+    let op = move_wide_op(bits(word, 30, 29))?;
+    Some(Instr::MoveWide(MoveWide {
+        width,
+        op,
+        imm16: bits(word, 20, 5) as u16,
+        hw: hw as u8,
+        rd: reg(word, 0),
+    }))
+}
+
+fn bitfield_op(opc: u32) -> Option<BitfieldOp>
+    ensures { result ≡ bitfield_op opc }
+{
+    match opc {
+        0 => Some(BitfieldOp::Signed),
+        1 => Some(BitfieldOp::Kept),
+        2 => Some(BitfieldOp::Unsigned),
+        _ => None,
+    }
+}
+
+pub fn bitfield(word: u32) -> Option<Instr>
+    ensures value { result ≡ bitfield word }
+    ensures widths { IfSome result HasWidths }
+{
+    let width = width(word);
+    let immr = bits(word, 21, 16);
+    let imms = bits(word, 15, 10);
+    if bits(word, 22, 22) != bits(word, 31, 31)
+        || immr >= width_bits(width)
+        || imms >= width_bits(width)
+    {
+        return None;
+    }
+    let op = bitfield_op(bits(word, 30, 29))?;
+    Some(Instr::Bitfield(Bitfield {
+        width,
+        op,
+        immr: immr as u8,
+        imms: imms as u8,
+        rn: reg(word, 5),
+        rd: reg(word, 0),
+    }))
+}
+
+pub fn extract(word: u32) -> Option<Instr>
+    ensures value { result ≡ extract word }
+    ensures widths { IfSome result HasWidths }
+{
+    let width = width(word);
+    let imms = bits(word, 15, 10);
+    if bits(word, 22, 22) != bits(word, 31, 31) || imms >= width_bits(width) {
+        return None;
+    }
+    Some(Instr::Extract(Extract {
+        width,
+        imms: imms as u8,
+        rm: reg(word, 16),
+        rn: reg(word, 5),
+        rd: reg(word, 0),
+    }))
+}

@@ -1,0 +1,105 @@
+//! An instruction as its class and its fields in the order of its struct, each as a number. A register is its number,
+//! and an enum the place of its variant.
+
+use a64_model::instr::{ConditionalCompare, Instr};
+use a64_model::operands::Comparand;
+
+/// A class and these fields of a value, as numbers.
+macro_rules! fields {
+    ($value:ident $class:literal => $($($field:ident).+),*) => {
+        ($class, padded(&[$($value.$($field).+ as u64),*]))
+    };
+}
+
+/// The class of an instruction and its fields, with zeros after them.
+pub fn fields_of(instr: Instr) -> (&'static str, [u64; 8]) {
+    match instr {
+        Instr::PcRelative(i) => fields!(i "pc relative" => page, offset, rd.number),
+        Instr::AddImmediate(i) =>
+            fields!(i "add immediate" => width, op, set_flags, immediate, rn.number, rd.number),
+        Instr::LogicalImmediate(i) =>
+            fields!(i "logical immediate" => width, op, immediate, rn.number, rd.number),
+        Instr::MoveWide(i) => fields!(i "move wide" => width, op, hw, imm16, rd.number),
+        Instr::Bitfield(i) => fields!(i "bitfield" => width, op, immr, imms, rn.number, rd.number),
+        Instr::Extract(i) => fields!(i "extract" => width, lowest, rm.number, rn.number, rd.number),
+        Instr::Branch(i) => fields!(i "branch" => link, offset),
+        Instr::BranchConditional(i) => fields!(i "branch conditional" => condition, offset),
+        Instr::CompareBranch(i) => fields!(i "compare branch" => width, nonzero, offset, rt.number),
+        Instr::TestBranch(i) => fields!(i "test branch" => set, bit_number, offset, rt.number),
+        Instr::BranchRegister(i) => fields!(i "branch register" => kind, rn.number),
+        Instr::SupervisorCall => ("supervisor call", [0; 8]),
+        Instr::Breakpoint => ("breakpoint", [0; 8]),
+        Instr::Hint => ("hint", [0; 8]),
+        Instr::ClearExclusive => ("clear exclusive", [0; 8]),
+        Instr::Barrier => ("barrier", [0; 8]),
+        Instr::ReadThreadPointer(i) => fields!(i "read thread pointer" => rt.number),
+        Instr::WriteThreadPointer(i) => fields!(i "write thread pointer" => rt.number),
+        Instr::LogicalShifted(i) =>
+            fields!(i "logical shifted" => width, op, invert, shift, amount, rm.number, rn.number, rd.number),
+        Instr::AddShifted(i) =>
+            fields!(i "add shifted" => width, op, set_flags, shift, amount, rm.number, rn.number, rd.number),
+        Instr::AddExtended(i) =>
+            fields!(i "add extended" => width, op, set_flags, extend, amount, rm.number, rn.number, rd.number),
+        Instr::AddCarry(i) =>
+            fields!(i "add carry" => width, op, set_flags, rm.number, rn.number, rd.number),
+        Instr::ConditionalCompare(i) => conditional_compare(i),
+        Instr::ConditionalSelect(i) =>
+            fields!(i "conditional select" => width, op, condition, rm.number, rn.number, rd.number),
+        Instr::OneSource(i) => fields!(i "one source" => width, op, rn.number, rd.number),
+        Instr::ReverseBytes(i) => fields!(i "reverse bytes" => rn.number, rd.number),
+        Instr::TwoSource(i) =>
+            fields!(i "two source" => width, op, rm.number, rn.number, rd.number),
+        Instr::MultiplyAdd(i) =>
+            fields!(i "multiply add" => width, op, rm.number, ra.number, rn.number, rd.number),
+        Instr::MultiplyLong(i) =>
+            fields!(i "multiply long" => signed, op, rm.number, ra.number, rn.number, rd.number),
+        Instr::MultiplyHigh(i) =>
+            fields!(i "multiply high" => signed, rm.number, rn.number, rd.number),
+        Instr::LoadStoreUnsigned(i) =>
+            fields!(i "load store unsigned" => size, transfer, offset, rn.number, rt.number),
+        Instr::LoadStoreIndexed(i) =>
+            fields!(i "load store indexed" => size, transfer, indexing, offset, rn.number, rt.number),
+        Instr::LoadStoreRegister(i) =>
+            fields!(i "load store register" => size, transfer, extend, amount, rm.number, rn.number, rt.number),
+        Instr::LoadLiteral(i) => fields!(i "load literal" => kind, offset, rt.number),
+        Instr::LoadStorePair(i) =>
+            fields!(i "load store pair" => kind, load, indexing, offset, rt2.number, rn.number, rt.number),
+        Instr::StoreExclusive(i) =>
+            fields!(i "store exclusive" => size, rs.number, rn.number, rt.number),
+        Instr::LoadExclusive(i) => fields!(i "load exclusive" => size, rn.number, rt.number),
+        Instr::StoreOrdered(i) => fields!(i "store ordered" => size, rn.number, rt.number),
+        Instr::LoadOrdered(i) => fields!(i "load ordered" => size, rn.number, rt.number),
+        Instr::CompareSwap(i) => fields!(i "compare swap" => size, rs.number, rn.number, rt.number),
+        Instr::Atomic(i) => fields!(i "atomic" => size, op, rs.number, rn.number, rt.number),
+    }
+}
+
+/// The same of a comparison under a condition; before the comparand stands whether it is an immediate.
+fn conditional_compare(i: ConditionalCompare) -> (&'static str, [u64; 8]) {
+    let (immediate, comparand) = match i.comparand {
+        Comparand::Register(rm) => (false, rm.number),
+        Comparand::Immediate(imm5) => (true, imm5),
+    };
+    (
+        "conditional compare",
+        [
+            i.width as u64,
+            i.op as u64,
+            immediate as u64,
+            comparand as u64,
+            i.condition as u64,
+            i.nzcv as u64,
+            i.rn.number as u64,
+            0,
+        ],
+    )
+}
+
+/// These numbers, and then zeros.
+pub fn padded(numbers: &[u64]) -> [u64; 8] {
+    let mut all = [0; 8];
+    for (place, number) in all.iter_mut().zip(numbers) {
+        *place = *number;
+    }
+    all
+}
