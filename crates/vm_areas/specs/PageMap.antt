@@ -1,0 +1,42 @@
+-- Areas as the runs of a page map. Pages are numbered from 0, and there are 2^53 of them.
+-- Source: the lines of a process's map are its maximal runs of pages with equal rights (procfs(5), FreeBSD).
+use Rattle.std.specs.Prelude.{◌≡◌, ◌≢◌, ℕ, Bool, ◌+◌, ◌^◌, ◌<◌, ◌≤◌, ◌&&◌, nat_le, nat_lt, if◌then◌else◌, List, [], ◌∷◌, length, Option, Some, None}
+use Rattle.std.specs.Bool.{beq}
+use Rattle.vm_areas.specs.declared.runs.Area.{Area}
+use Rattle.vm_areas.specs.declared.runs.Rights.{Rights}
+
+-- the first page after an area
+abbrev pub end_of : Area → ℕ
+end_of area = area.first + area.pages
+
+-- whether a page is one of so many pages from `first` on
+abbrev pub within : ℕ → ℕ → ℕ → Bool
+within first pages page = nat_le first page && nat_lt page (first + pages)
+
+-- the rights at a page: those of the area that holds it, and none where no area does
+abbrev pub rights_at : List Area → ℕ → Option Rights
+rights_at [] page = None
+rights_at (area ∷ areas) page = if within area.first area.pages page then Some area.rights else rights_at areas page
+
+-- whether two pages have equal rights
+abbrev pub same_rights : Rights → Rights → Bool
+same_rights one other = beq one.read other.read && beq one.write other.write && beq one.execute other.execute
+
+-- the next area lies behind this one, with other rights where it touches it
+abbrev pub IsApart : Area → List Area → Type 0
+IsApart area [] = Unit {0}
+IsApart area (next ∷ _) = (end_of area ≤ next.first) × (end_of area ≡ next.first → area.rights ≢ next.rights)
+
+-- areas in order, none of them empty, each as long as the pages with equal rights reach
+abbrev pub IsMaximal : List Area → Type 0
+IsMaximal [] = Unit {0}
+IsMaximal (area ∷ areas) = (0 < area.pages) × (end_of area ≤ 2 ^ 53) × IsApart area areas × IsMaximal areas
+
+-- what an address space holds: at most 1024 areas
+pub record IsAreas (areas : List Area) : Type 0 where
+  pub maximal : IsMaximal areas
+  pub few : length areas ≤ 1024
+
+-- two lists of areas with the same rights at each page are one list
+abbrev pub OneListForAPageMap : Type 0
+OneListForAPageMap = (one other : List Area) → IsMaximal one → IsMaximal other → ((page : ℕ) → rights_at one page ≡ rights_at other page) → one ≡ other
