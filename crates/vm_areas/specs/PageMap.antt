@@ -1,5 +1,6 @@
--- Areas as the runs of a page map. Pages are numbered from 0, and there are 2^53 of them.
--- Source: the lines of a process's map are its maximal runs of pages with equal rights (procfs(5), FreeBSD).
+-- Areas as the runs of a page map. Pages are numbered from 0. Each range of them ends at or below page 2^53,
+-- which lies past the 2^52 pages of 4096 bytes that 64-bit addresses have.
+-- Source: this project's own; rights are those of mmap(2).
 use Rattle.std.specs.Prelude.{◌≡◌, ◌≢◌, ℕ, Bool, ◌+◌, ◌^◌, ◌<◌, ◌≤◌, ◌&&◌, nat_le, nat_lt, if◌then◌else◌, List, [], ◌∷◌, length, Option, Some, None}
 use Rattle.std.specs.Bool.{beq}
 use Rattle.vm_areas.specs.declared.runs.Area.{Area}
@@ -27,7 +28,7 @@ abbrev pub IsApart : Area → List Area → Type 0
 IsApart area [] = Unit {0}
 IsApart area (next ∷ _) = (end_of area ≤ next.first) × (end_of area ≡ next.first → area.rights ≢ next.rights)
 
--- areas in order, none of them empty, each as long as the pages with equal rights reach
+-- areas in order, ending at or below page 2^53, none of them empty, each as long as the pages with equal rights reach
 abbrev pub IsMaximal : List Area → Type 0
 IsMaximal [] = Unit {0}
 IsMaximal (area ∷ areas) = (0 < area.pages) × (end_of area ≤ 2 ^ 53) × IsApart area areas × IsMaximal areas

@@ -1,5 +1,5 @@
--- The areas after a change of the rights of a range of pages.
-use Rattle.std.specs.Prelude.{◌≡◌, ℕ, Bool, ◌+◌, ◌-◌, ◌^◌, ◌&&◌, ◌==◌, min, max, if◌then◌else◌, List, [], ◌∷◌, ◌++◌, map, Option, Some, None}
+-- The areas after a change of the rights of a range of pages (mmap(2), mprotect(2), munmap(2)).
+use Rattle.std.specs.Prelude.{◌≡◌, ℕ, Bool, ◌+◌, ◌-◌, ◌^◌, ◌≤◌, ◌&&◌, ◌==◌, min, max, if◌then◌else◌, List, [], ◌∷◌, ◌++◌, map, Option, Some, None}
 use Rattle.vm_areas.specs.declared.runs.Area.{Area}
 use Rattle.vm_areas.specs.declared.runs.Rights.{Rights}
 use Rattle.vm_areas.specs.PageMap.{end_of, within, rights_at, same_rights, IsMaximal}
@@ -45,3 +45,11 @@ painted areas first pages rights = joined (map (clipped 0 first) areas ++ (range
 pub record IsPainted (old : List Area) (first pages : ℕ) (rights : Option Rights) (new : List Area) : Type 0 where
   pub maximal : IsMaximal new
   pub at_page : (page : ℕ) → rights_at new page ≡ (if within first pages page then rights else rights_at old page)
+
+-- there is one list of areas after a change, and `painted` is it
+abbrev pub OneResultOfAChange : Type 0
+OneResultOfAChange = (old new : List Area) (first pages : ℕ) (rights : Option Rights) → IsMaximal old → first + pages ≤ 2 ^ 53 → IsPainted old first pages rights new → new ≡ painted old first pages rights
+
+-- a change of no pages changes nothing
+abbrev pub NoPagesNoChange : Type 0
+NoPagesNoChange = (areas : List Area) (first : ℕ) (rights : Option Rights) → IsMaximal areas → first ≤ 2 ^ 53 → painted areas first 0 rights ≡ areas

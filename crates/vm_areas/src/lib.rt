@@ -11,6 +11,6 @@ mod tally;
 mod tests;
 mod walks;
 
-pub use crate::laws::one_list_for_a_page_map;
+pub use crate::laws::{no_change_without_pages, one_list_for_a_page_map, one_result_of_a_change};
 pub use crate::page_map::{Areas, AreasFull, NoMemory};
 pub use crate::runs::{Area, Rights};

@@ -10,8 +10,9 @@ use std::alloc::{AllocError, Global};
 use std::marker::Model;
 use std::mem;
 
-/// How many pages there are: those of 2^53 pages of 4096 bytes.
-pub(crate) const PAGES: u64 = 1 << 53;
+/// The page at or below which each range ends. It lies past the 2^52 pages of 4096 bytes that 64-bit
+/// addresses have.
+pub(crate) const RANGES_END: u64 = 1 << 53;
 
 /// The lowest page at which `Areas::find` answers a range.
 pub(crate) const LOWEST: u64 = 16;

@@ -5,7 +5,7 @@ ghost use Rattle.vm_areas.specs.PageMap.{end_of};
 ghost use Rattle.vm_areas.specs.Painted.{painted, range_of};
 ghost use Rattle.vm_areas.specs.Steps.{with_last, with_part, with_piece};
 
-use crate::page_map::PAGES;
+use crate::page_map::RANGES_END;
 use crate::runs::{Area, Rights};
 
 // Puts a piece behind the areas: one run with the last where it touches it.
@@ -84,5 +84,5 @@ pub(crate) fn paint(
     row.clear();
     add_parts(row, areas, 0, first);
     add_range(row, first, pages, rights);
-    add_parts(row, areas, first + pages, PAGES);
+    add_parts(row, areas, first + pages, RANGES_END);
 }

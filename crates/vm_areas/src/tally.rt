@@ -6,7 +6,7 @@ ghost use Rattle.vm_areas.specs.PageMap.{end_of};
 ghost use Rattle.vm_areas.specs.Painted.{painted, range_of};
 ghost use Rattle.vm_areas.specs.Steps.{tally_of, with_part, with_piece};
 
-use crate::page_map::PAGES;
+use crate::page_map::RANGES_END;
 use crate::runs::{Area, Rights};
 
 // How many areas there are, and the last of them.
@@ -18,7 +18,7 @@ pub(crate) struct Tally {
 
 // Counts one more piece behind the areas.
 fn count_piece(tally: Tally, piece: Area) -> Tally
-    requires count { tally.count < 2 ^ 32 }
+    requires count { tally.count < usize.MAX }
     requires end { 0 < piece.pages → end_of piece ≤ 2 ^ 53 }
     ensures tally { (areas : List AnArea) → tally ≡ tally_of areas → result ≡ tally_of (with_piece areas piece) }
     ensures count { result.count ≤ tally.count + 1 }
@@ -43,13 +43,12 @@ fn count_piece(tally: Tally, piece: Area) -> Tally
 }
 
 // Counts the parts of the areas from page `from` on and below page `to`.
-fn count_parts(tally: Tally, areas: &[Area], from: u64, to: u64) -> Tally
+fn count_parts(mut tally: Tally, areas: &[Area], from: u64, to: u64) -> Tally
     requires limit { to ≤ 2 ^ 53 }
-    requires count { tally.count + length areas.now < 2 ^ 32 }
+    requires count { tally.count + length areas.now < usize.MAX }
     ensures tally { (row : List AnArea) → tally ≡ tally_of row → result ≡ tally_of (fold (with_part from to) row areas.now) }
     ensures count { result.count ≤ tally.count + length areas.now }
 {
-    let mut tally = tally;
     for area in areas {
         tally = count_piece(tally, area.clipped(from, to));
     }
@@ -59,7 +58,7 @@ fn count_parts(tally: Tally, areas: &[Area], from: u64, to: u64) -> Tally
 // Counts a range with these rights.
 fn count_range(tally: Tally, first: u64, pages: u64, rights: Option<Rights>) -> Tally
     requires end { first + pages ≤ 2 ^ 53 }
-    requires count { tally.count < 2 ^ 32 }
+    requires count { tally.count < usize.MAX }
     ensures tally { (row : List AnArea) → tally ≡ tally_of row → result ≡ tally_of (fold with_piece row (range_of first pages rights)) }
     ensures count { result.count ≤ tally.count + 1 }
 {
@@ -77,12 +76,7 @@ fn count_range(tally: Tally, first: u64, pages: u64, rights: Option<Rights>) -> 
 }
 
 // How many areas there are after a change of the rights of a range.
-pub(crate) fn painted_count(
-    areas: &[Area],
-    first: u64,
-    pages: u64,
-    rights: Option<Rights>,
-) -> usize
+pub(crate) fn painted_count(areas: &[Area], first: u64, pages: u64, rights: Option<Rights>) -> usize
     requires end { first + pages ≤ 2 ^ 53 }
     requires few { length areas.now ≤ 1024 }
     ensures { result ≡ length (painted areas.now first pages rights) }
@@ -93,6 +87,6 @@ pub(crate) fn painted_count(
     };
     let tally = count_parts(tally, areas, 0, first);
     let tally = count_range(tally, first, pages, rights);
-    let tally = count_parts(tally, areas, first + pages, PAGES);
+    let tally = count_parts(tally, areas, first + pages, RANGES_END);
     tally.count
 }

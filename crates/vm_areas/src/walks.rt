@@ -45,14 +45,11 @@ pub(crate) fn any_meets(areas: &[Area], from: u64, to: u64) -> bool
 pub(crate) fn any_meets_code(areas: &[Area], from: u64, to: u64) -> bool
     ensures { result ≡ list_any (meets_code from to) areas.now }
 {
-    areas
-        .iter()
-        .any(|area| area.clipped(from, to).pages > 0 && area.rights.execute)
+    areas.iter().any(|area| area.clipped(from, to).pages > 0 && area.rights.execute)
 }
 
 // The highest place of so many pages from `from` on and below `to`.
 fn place_in(pages: u64, from: u64, to: u64) -> Option<u64>
-    requires { from ≤ 2 ^ 53 }
     ensures { result ≡ place_between pages from to }
 {
     if to >= from && to - from >= pages {

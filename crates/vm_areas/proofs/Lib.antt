@@ -1,0 +1,9 @@
+mod Touching
+mod Maximal
+mod OneList
+mod Joining
+mod Painting
+mod Counting
+mod Reaching
+mod Meeting
+mod Rooms
