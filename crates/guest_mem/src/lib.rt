@@ -9,5 +9,7 @@ mod marks;
 mod page_store;
 mod shard;
 mod swaps;
+#[cfg(test)]
+mod tests;
 
 pub use crate::shard::{NoMemory, Shard, ShardFull};

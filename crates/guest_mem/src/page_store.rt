@@ -258,7 +258,11 @@ impl PageStore {
         if !kept.rights.write {
             return Err(Fault { address: at });
         }
-        splice(&mut self.frames[kept.frame], (at % PAGE as u64) as usize, bytes);
+        splice(
+            &mut self.frames[kept.frame],
+            (at % PAGE as u64) as usize,
+            bytes,
+        );
         Ok(())
     }
 

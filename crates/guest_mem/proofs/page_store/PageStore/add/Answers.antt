@@ -58,7 +58,7 @@ returns-clause-after c =
     let new : Kept = record { page = c.args.page; rights = c.args.rights; frame = frame } in
     let none : times frame_of frame items ≡ 0 = omega (arith, c.self.invariant.owners frame, taken.owner frame, one_if-same frame frame refl, one_below-most frame c.take_frame-frame.new.frames.len) in
     let pages_are = ap (pages_of frames) c.put_in.ensures.items
-        ∙ pages_of-insert frames items c.args.page c.in-Err.place new gap refl
-        ∙ ap (λ ps. finite.insert ps c.args.page record { rights = c.args.rights; bytes = get_or frames frame [] }) (pages_of-unused frame old frames taken.others items none)
-        ∙ ap (λ b. finite.insert (pages_of old items) c.args.page record { rights = c.args.rights; bytes = b }) taken.zeros in
+    ∙ pages_of-insert frames items c.args.page c.in-Err.place new gap refl
+    ∙ ap (λ ps. finite.insert ps c.args.page record { rights = c.args.rights; bytes = get_or frames frame [] }) (pages_of-unused frame old frames taken.others items none)
+    ∙ ap (λ b. finite.insert (pages_of old items) c.args.page record { rights = c.args.rights; bytes = b }) taken.zeros in
     rw (← c.self.view_is) (λ i. record { pages = pages_are i; spare = c.self.inside.spare - 1 })

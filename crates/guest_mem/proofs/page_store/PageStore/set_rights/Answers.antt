@@ -53,5 +53,5 @@ returns-clause-after c =
     let there : finite.get (pages_of frames items) c.args.page ≡ Some (page_in frames kept) = page_there frames _ _ _ _ c.self.invariant.rising place c.index_mut.ensures.value in
     let new : Kept = record { page = kept.page; rights = c.args.rights; frame = kept.frame } in
     let pages_are : pages_of frames (set items c.in-Ok.place new) ≡ changed (pages_of frames items) c.args.page (with_rights c.args.rights) =
-        pages_of-set frames items c.args.page c.in-Ok.place new c.self.invariant.rising place (ap number_of c.index_mut.ensures.value ∙ place.has_key _) ∙ sym (changed_kept (pages_of frames items) c.args.page (page_in frames kept) (with_rights c.args.rights) there) in
+    pages_of-set frames items c.args.page c.in-Ok.place new c.self.invariant.rising place (ap number_of c.index_mut.ensures.value ∙ place.has_key _) ∙ sym (changed_kept (pages_of frames items) c.args.page (page_in frames kept) (with_rights c.args.rights) there) in
     rw (← c.self.view_is) (λ i. record { pages = pages_are i; spare = c.self.inside.spare })

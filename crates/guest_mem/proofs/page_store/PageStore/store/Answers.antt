@@ -48,8 +48,8 @@ returns c =
     let bytes = c.args.bytes.now in
     let frame_is : c.index_mut.result.now ≡ get_or frames kept.frame [] = c.index_mut.ensures.value ∙ get_or_default _ _ _ _ in_range in
     let new_bytes : get_or (set frames kept.frame c.splice.new.frame) kept.frame [] ≡ spliced (get_or frames kept.frame []) from bytes =
-        get_or-set_same frames kept.frame c.splice.new.frame [] in_range ∙ (c.splice.ensures ∙ ap (λ b. spliced b from bytes) frame_is) in
+    get_or-set_same frames kept.frame c.splice.new.frame [] in_range ∙ (c.splice.ensures ∙ ap (λ b. spliced b from bytes) frame_is) in
     let agree : AgreeBut kept.frame frames (set frames kept.frame c.splice.new.frame) = λ other ne. get_or-set_other frames kept.frame other c.splice.new.frame [] ne in
     let pages_are : pages_of (set frames kept.frame c.splice.new.frame) items ≡ changed (pages_of frames items) n (written from bytes) =
-        pages_of-frame frames _ items n c.in-Ok.place kept _ c.self.invariant.rising place c.index-kept.ensures own.1 agree new_bytes ∙ sym (changed_kept (pages_of frames items) n (page_in frames kept) (written from bytes) there) in
+    pages_of-frame frames _ items n c.in-Ok.place kept _ c.self.invariant.rising place c.index-kept.ensures own.1 agree new_bytes ∙ sym (changed_kept (pages_of frames items) n (page_in frames kept) (written from bytes) there) in
     rw (← c.self.view_is) (rw (page_if_allowed writes _ _ there (not_false _ c.if-not-kept.false)) (refl, λ i. record { pages = pages_are i; spare = c.self.inside.spare }))

@@ -46,5 +46,5 @@ returns-clause-after c =
     let agree : AgreeBut kept.frame frames new = λ other ne. get_or-set_other frames kept.frame other c.blank_out.new.frame [] ne in
     let zeros : get_or new kept.frame [] ≡ blank = get_or-set_same frames kept.frame c.blank_out.new.frame [] in_range ∙ c.blank_out.ensures in
     let pages_are : pages_of new items ≡ changed (pages_of frames items) c.args.page blanked =
-        pages_of-frame frames new items c.args.page c.in-Ok.place kept blank c.self.invariant.rising place c.index-kept.ensures own.1 agree zeros ∙ sym (changed_kept (pages_of frames items) c.args.page (page_in frames kept) blanked there) in
+    pages_of-frame frames new items c.args.page c.in-Ok.place kept blank c.self.invariant.rising place c.index-kept.ensures own.1 agree zeros ∙ sym (changed_kept (pages_of frames items) c.args.page (page_in frames kept) blanked there) in
     rw (← c.self.view_is) (λ i. record { pages = pages_are i; spare = c.self.inside.spare })

@@ -14,7 +14,7 @@ returns-then-set_rights-clause-ok c =
     let has : has_any rights ≡ true = sym c.has_any_right.ensures ∙ c.if-not-has_any_right.false in
     let kept : finite.contains_key pages page ≡ true = sym c.set_rights.ensures.kept ∙ c.if-set_rights.true in
     let pages_are : c.zero.new.self.pages ≡ finite.insert pages page record { rights = rights; bytes = blank } =
-        ap (λ k. k.pages) c.zero.ensures.after ∙ ap (λ k. changed k.pages page blanked) c.set_rights.ensures.after ∙ renewed pages page rights kept in
+    ap (λ k. k.pages) c.zero.ensures.after ∙ ap (λ k. changed k.pages page blanked) c.set_rights.ensures.after ∙ renewed pages page rights kept in
     let spare_is : c.zero.new.self.spare ≡ (if finite.contains_key pages page then spare else spare - 1) =
-        rw kept (ap (λ k. k.spare) c.zero.ensures.after ∙ ap (λ k. k.spare) c.set_rights.ensures.after) in
+    rw kept (ap (λ k. k.spare) c.zero.ensures.after ∙ ap (λ k. k.spare) c.set_rights.ensures.after) in
     rw (← c.self.view_is) (rw has (λ i. record { index = c.self.inside.index; pages = pages_are i; marks = c.end_on_page.ensures i; spare = spare_is i }))
