@@ -1,5 +1,5 @@
 -- What the tests of a decoder tell about the rows that a word can fit.
-use Rattle.std.proofs.Common.{◌≡◌, ◌≢◌, ℕ, Bool, true, false, ◌||◌, ◌&&◌, bit_and, eqb, List, [], ◌∷◌, Option, option_and_then, Some, None, cond, refl, ap, ◌∙◌, sym, inl, inr, ◌⊎◌}
+use Rattle.std.proofs.Common.{◌≡◌, ℕ, Bool, true, false, ◌||◌, ◌&&◌, bit_and, eqb, List, [], ◌∷◌, Option, option_and_then, Some, None, cond, refl, ap, ◌∙◌, sym, inl, inr}
 use Rattle.std.specs.List.{list_all, list_any, find}
 use Rattle.std.specs.Option.{option_map}
 use Rattle.std.specs.Int.Bits.{and_self}

@@ -1,5 +1,5 @@
 -- Which immediates of logical operations are patterns: DecodeBitMasks of the Arm manual (DDI 0487, shared pseudocode).
-use Rattle.std.specs.Prelude.{ℕ, ◌+◌, ◌-◌, ◌*◌, ◌/◌, ◌%◌, ◌^◌, Bool, true, false, ◌&&◌, ◌||◌, ◌==◌, nat_le}
+use Rattle.std.specs.Prelude.{ℕ, ◌+◌, ◌-◌, ◌*◌, ◌%◌, ◌^◌, Bool, true, ◌&&◌, ◌==◌, nat_le}
 use Rattle.std.proofs.Math.Bool.{not}
 use Rattle.std.specs.Int.{leading_zeros, w32}
 use Rattle.a64_model.specs.declared.operands.Width.{Width}

@@ -1,5 +1,5 @@
 -- Branches, Exception Generating and System instructions (DDI 0487, C4.1): the fields of each row.
-use Rattle.std.specs.Prelude.{ℕ, ◌≡◌, ◌+◌, ◌*◌, ◌<◌, Bool, Option, Some}
+use Rattle.std.specs.Prelude.{ℕ, ◌+◌, ◌*◌, Bool, Option, Some}
 use Rattle.a64_model.specs.Bits.{bits}
 use Rattle.a64_model.specs.Operands.{reg, width, condition}
 use Rattle.a64_model.specs.declared.instr.Instr.{Instr}

@@ -1,5 +1,5 @@
 -- Data Processing -- Register (DDI 0487, C4.1): the fields of each row, or none where its condition fails.
-use Rattle.std.specs.Prelude.{ℕ, ◌≡◌, ◌<◌, Bool, true, false, ◌&&◌, ◌==◌, nat_lt, nat_le, Option, Some, None, if◌then◌else◌}
+use Rattle.std.specs.Prelude.{ℕ, Bool, ◌&&◌, ◌==◌, nat_lt, nat_le, Option, Some, None, if◌then◌else◌}
 use Rattle.std.proofs.Math.Bool.{not}
 use Rattle.a64_model.specs.Bits.{bit, bits}
 use Rattle.a64_model.specs.Operands.{reg, width, width_bits, add_op, logical_op, shift, extend, condition}
@@ -76,11 +76,11 @@ add_carry word =
 
 -- a comparison under a condition with either operand: 30 is CCMP, cond 15 to 12, nzcv 3 to 0
 abbrev pub conditional_compare : Comparand → ℕ → Option Instr
-conditional_compare with_ word =
+conditional_compare operand word =
     Some (instr.ConditionalCompare (record {
       width = width word;
       op = add_op word;
-      comparand = with_;
+      comparand = operand;
       condition = condition (bits word 15 12);
       nzcv = bits word 3 0;
       rn = reg word 5;

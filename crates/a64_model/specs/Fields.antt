@@ -1,5 +1,5 @@
 -- The fields of a word of each form, or none where the form's condition fails, in the order of the table.
-use Rattle.std.specs.Prelude.{ℕ, Bool, Option, Some}
+use Rattle.std.specs.Prelude.{ℕ, Option, Some}
 use Rattle.a64_model.specs.Immediates as immediates
 use Rattle.a64_model.specs.Branches as branches
 use Rattle.a64_model.specs.DataRegisters as registers

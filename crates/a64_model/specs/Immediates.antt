@@ -1,5 +1,5 @@
 -- Data Processing -- Immediate (DDI 0487, C4.1): the fields of each row, or none where its condition fails.
-use Rattle.std.specs.Prelude.{ℕ, ◌≡◌, ◌+◌, ◌*◌, ◌<◌, Bool, true, false, ◌&&◌, ◌==◌, nat_lt, Option, Some, None, if◌then◌else◌}
+use Rattle.std.specs.Prelude.{ℕ, ◌+◌, ◌*◌, Bool, ◌&&◌, ◌==◌, nat_lt, Option, Some, None, if◌then◌else◌}
 use Rattle.std.specs.Option.{option_map}
 use Rattle.a64_model.specs.Bits.{bit, bits}
 use Rattle.a64_model.specs.Operands.{reg, width, width_bits, add_op, logical_op}

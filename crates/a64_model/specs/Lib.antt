@@ -1,4 +1,3 @@
-pub mod Apart
 pub mod BitMasks
 pub mod Bits
 pub mod Branches

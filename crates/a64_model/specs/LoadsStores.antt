@@ -1,5 +1,5 @@
 -- Loads and Stores (DDI 0487, C4.1): the fields of each row, or none where its condition fails.
-use Rattle.std.specs.Prelude.{ℕ, ◌≡◌, ◌<◌, Bool, true, false, ◌&&◌, ◌||◌, ◌==◌, Option, Some, None, if◌then◌else◌}
+use Rattle.std.specs.Prelude.{ℕ, Bool, true, false, ◌&&◌, ◌||◌, ◌==◌, Option, Some, None, if◌then◌else◌}
 use Rattle.std.specs.Option.{option_map}
 use Rattle.std.proofs.Math.Bool.{not}
 use Rattle.a64_model.specs.Bits.{bit, bits}
@@ -8,11 +8,11 @@ use Rattle.a64_model.specs.declared.instr.Instr.{Instr}
 use Rattle.a64_model.specs.declared.instr.Instr.TheVariants as instr
 use Rattle.a64_model.specs.declared.operands.Reg.{Reg}
 use Rattle.a64_model.specs.declared.operands.Size.{Size}
-use Rattle.a64_model.specs.declared.operands.Size.TheVariants.{Byte, Half, Word, Double}
+use Rattle.a64_model.specs.declared.operands.Size.TheVariants.{Byte, Half, Double}
 use Rattle.a64_model.specs.declared.operands.Transfer.{Transfer}
 use Rattle.a64_model.specs.declared.operands.Transfer.TheVariants as transfers
 use Rattle.a64_model.specs.declared.operands.Indexing.{Indexing}
-use Rattle.a64_model.specs.declared.operands.Indexing.TheVariants.{Offset, PostIndex, PreIndex}
+use Rattle.a64_model.specs.declared.operands.Indexing.TheVariants.{Offset}
 use Rattle.a64_model.specs.declared.operands.LiteralKind.{LiteralKind}
 use Rattle.a64_model.specs.declared.operands.LiteralKind.TheVariants as literals
 use Rattle.a64_model.specs.declared.operands.PairKind.{PairKind}
@@ -44,7 +44,8 @@ transfer s opc prefetches =
     if opc == 1 then Some transfers.Load else (
     if opc == 2 then load_signed_64 s prefetches else load_signed_32 s))
 
--- where the base is written back it is the stack pointer or no register that is moved
+-- where the base is written back it is the stack pointer or no register that is moved. The manual leaves open what a
+-- word does that is otherwise (CONSTRAINED UNPREDICTABLE, at each of these instructions in C6.2); here it has no row
 abbrev pub may_write_back : Indexing → Reg → Reg → Bool
 may_write_back Offset rn rt = true
 may_write_back _ rn rt = is_31 rn || not (is_same rn rt)
@@ -118,7 +119,8 @@ pair_kind opc load =
     if opc == 2 then Some pairs.Double else (
     if opc == 1 && load then Some pairs.SignedWord else None))
 
--- a load into two registers has two different ones
+-- a load into two registers has two different ones, also where both are the zero register; otherwise the manual leaves
+-- open what the word does, and here it has no row
 abbrev pub may_pair : Bool → Reg → Reg → Bool
 may_pair load rt rt2 = not (load && is_same rt rt2)
 
@@ -141,7 +143,8 @@ load_store_pair indexing word =
     })) (pair_kind (bits word 31 30) load)
     else None
 
--- the status goes to a register that is neither stored nor the base
+-- the status goes to a register that is neither stored nor the base, also where it is the zero register; otherwise the
+-- manual leaves open what the word does, and here it has no row
 abbrev pub may_take_status : Reg → Reg → Reg → Bool
 may_take_status rs rt rn = not (is_same rs rt) && (is_31 rn || not (is_same rs rn))
 

@@ -1,8 +1,8 @@
 -- The operands that many rows have, by the bits of the word.
-use Rattle.std.specs.Prelude.{ℕ, ◌≡◌, ◌+◌, ◌/◌, ◌%◌, ◌^◌, ◌<◌, Bool, true, false, ◌==◌, if◌then◌else◌}
+use Rattle.std.specs.Prelude.{ℕ, ◌/◌, ◌%◌, ◌^◌, Bool, ◌==◌, if◌then◌else◌}
 use Rattle.std.proofs.lemmas.Nat.{mod_below}
 use Rattle.std.proofs.Common.{lit<}
-use Rattle.a64_model.specs.Bits.{bit, bits}
+use Rattle.a64_model.specs.Bits.{bit}
 use Rattle.a64_model.specs.declared.operands.Reg.{Reg}
 use Rattle.a64_model.specs.declared.operands.Width.{Width}
 use Rattle.a64_model.specs.declared.operands.Width.TheVariants.{W, X}

@@ -1,5 +1,5 @@
 -- The widths of the fields of an instruction, and the conditions of its row.
-use Rattle.std.specs.Prelude.{ℕ, ◌*◌, ◌^◌, ◌<◌, ◌≤◌, Bool, true, false, IsTrue}
+use Rattle.std.specs.Prelude.{◌*◌, ◌^◌, ◌<◌, ◌≤◌, Bool, true, false, IsTrue}
 use Rattle.a64_model.specs.BitMasks.{is_pattern}
 use Rattle.a64_model.specs.Operands.{width_bits}
 use Rattle.a64_model.specs.LoadsStores.{is_offset, may_write_back, may_pair, may_take_status}
@@ -12,7 +12,7 @@ use Rattle.a64_model.specs.declared.operands.Extend.TheVariants as extends
 use Rattle.a64_model.specs.declared.operands.ShiftKind.{ShiftKind}
 use Rattle.a64_model.specs.declared.operands.ShiftKind.TheVariants as shifts
 use Rattle.a64_model.specs.declared.operands.Size.{Size}
-use Rattle.a64_model.specs.declared.operands.Size.TheVariants.{Byte, Half, Word, Double}
+use Rattle.a64_model.specs.declared.operands.Size.TheVariants.{Word, Double}
 use Rattle.a64_model.specs.declared.operands.Transfer.{Transfer}
 use Rattle.a64_model.specs.declared.operands.Transfer.TheVariants as transfers
 use Rattle.a64_model.specs.declared.operands.PairKind.{PairKind}

@@ -14,18 +14,18 @@ macro_rules! fields {
 /// The class of an instruction and its fields, with zeros after them.
 pub fn fields_of(instr: Instr) -> (&'static str, [u64; 8]) {
     match instr {
-        Instr::PcRelative(i) => fields!(i "pc relative" => page, offset, rd.number),
+        Instr::PcRelative(i) => fields!(i "pc relative" => imm21, page, rd.number),
         Instr::AddImmediate(i) =>
-            fields!(i "add immediate" => width, op, set_flags, immediate, rn.number, rd.number),
+            fields!(i "add immediate" => width, op, set_flags, shifted, imm12, rn.number, rd.number),
         Instr::LogicalImmediate(i) =>
-            fields!(i "logical immediate" => width, op, immediate, rn.number, rd.number),
-        Instr::MoveWide(i) => fields!(i "move wide" => width, op, hw, imm16, rd.number),
+            fields!(i "logical immediate" => width, op, n, immr, imms, rn.number, rd.number),
+        Instr::MoveWide(i) => fields!(i "move wide" => width, op, imm16, hw, rd.number),
         Instr::Bitfield(i) => fields!(i "bitfield" => width, op, immr, imms, rn.number, rd.number),
-        Instr::Extract(i) => fields!(i "extract" => width, lowest, rm.number, rn.number, rd.number),
-        Instr::Branch(i) => fields!(i "branch" => link, offset),
-        Instr::BranchConditional(i) => fields!(i "branch conditional" => condition, offset),
-        Instr::CompareBranch(i) => fields!(i "compare branch" => width, nonzero, offset, rt.number),
-        Instr::TestBranch(i) => fields!(i "test branch" => set, bit_number, offset, rt.number),
+        Instr::Extract(i) => fields!(i "extract" => width, imms, rm.number, rn.number, rd.number),
+        Instr::Branch(i) => fields!(i "branch" => imm26, link),
+        Instr::BranchConditional(i) => fields!(i "branch conditional" => imm19, condition),
+        Instr::CompareBranch(i) => fields!(i "compare branch" => imm19, width, nonzero, rt.number),
+        Instr::TestBranch(i) => fields!(i "test branch" => set, bit_number, imm14, rt.number),
         Instr::BranchRegister(i) => fields!(i "branch register" => kind, rn.number),
         Instr::SupervisorCall => ("supervisor call", [0; 8]),
         Instr::Breakpoint => ("breakpoint", [0; 8]),
@@ -56,14 +56,14 @@ pub fn fields_of(instr: Instr) -> (&'static str, [u64; 8]) {
         Instr::MultiplyHigh(i) =>
             fields!(i "multiply high" => signed, rm.number, rn.number, rd.number),
         Instr::LoadStoreUnsigned(i) =>
-            fields!(i "load store unsigned" => size, transfer, offset, rn.number, rt.number),
+            fields!(i "load store unsigned" => size, transfer, imm12, rn.number, rt.number),
         Instr::LoadStoreIndexed(i) =>
-            fields!(i "load store indexed" => size, transfer, indexing, offset, rn.number, rt.number),
+            fields!(i "load store indexed" => imm9, size, transfer, indexing, rn.number, rt.number),
         Instr::LoadStoreRegister(i) =>
-            fields!(i "load store register" => size, transfer, extend, amount, rm.number, rn.number, rt.number),
-        Instr::LoadLiteral(i) => fields!(i "load literal" => kind, offset, rt.number),
+            fields!(i "load store register" => size, transfer, extend, scaled, rm.number, rn.number, rt.number),
+        Instr::LoadLiteral(i) => fields!(i "load literal" => imm19, kind, rt.number),
         Instr::LoadStorePair(i) =>
-            fields!(i "load store pair" => kind, load, indexing, offset, rt2.number, rn.number, rt.number),
+            fields!(i "load store pair" => kind, load, indexing, imm7, rt2.number, rn.number, rt.number),
         Instr::StoreExclusive(i) =>
             fields!(i "store exclusive" => size, rs.number, rn.number, rt.number),
         Instr::LoadExclusive(i) => fields!(i "load exclusive" => size, rn.number, rt.number),

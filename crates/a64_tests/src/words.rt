@@ -16,50 +16,50 @@ macro_rules! fits {
 
 /// Words of data processing with immediates. The line above each class names its fields in order.
 pub const IMMEDIATES: [Fits; 20] = [
-    // page, offset, rd
-    fits!(0x1000_0041 => "pc relative" [0, 8, 1]), // adr x1, .+8
-    fits!(0x70FF_FFFE => "pc relative" [0, 0xFFFF_FFFF_FFFF_FFFF, 30]), // adr x30, .-1
-    fits!(0xD000_0002 => "pc relative" [1, 8192, 2]), // adrp x2, .+0x2000
-    fits!(0xF0FF_FFE3 => "pc relative" [1, 0xFFFF_FFFF_FFFF_F000, 3]), // adrp x3, .-0x1000
-    // width, op, set_flags, immediate, rn, rd
-    fits!(0x9100_1441 => "add immediate" [1, 0, 0, 5, 2, 1]), // add x1, x2, #5
-    fits!(0x717F_FC83 => "add immediate" [0, 1, 1, 0x00FF_F000, 4, 3]), // subs w3, w4, #0xfff, lsl #12
-    fits!(0xD100_43FF => "add immediate" [1, 1, 0, 16, 31, 31]), // sub sp, sp, #16
-    // width, op, immediate, rn, rd
-    fits!(0x9200_F041 => "logical immediate" [1, 0, 0x5555_5555_5555_5555, 2, 1]), // and x1, x2, #0x5555555555555555
-    fits!(0x3200_1C83 => "logical immediate" [0, 1, 255, 4, 3]), // orr w3, w4, #0xff
-    fits!(0xD27F_F8C5 => "logical immediate" [1, 2, 0xFFFF_FFFF_FFFF_FFFE, 6, 5]), // eor x5, x6, #0xfffffffffffffffe
-    fits!(0x7202_0D07 => "logical immediate" [0, 3, 0xC000_0003, 8, 7]), // ands w7, w8, #0xc0000003
-    fits!(0xB210_3FE9 => "logical immediate" [1, 1, 0xFFFF_0000_FFFF_0000, 31, 9]), // orr x9, xzr, #0xffff0000ffff0000
-    // width, op, hw, imm16, rd
-    fits!(0x9280_0041 => "move wide" [1, 0, 0, 2, 1]), // movn x1, #2
-    fits!(0x52BF_FFE2 => "move wide" [0, 1, 1, 0xFFFF, 2]), // movz w2, #0xffff, lsl #16
-    fits!(0xF2E0_00E3 => "move wide" [1, 2, 3, 7, 3]), // movk x3, #7, lsl #48
+    // imm21, page, rd
+    fits!(0x1000_0041 => "pc relative" [8, 0, 1]), // adr x1, .+8
+    fits!(0x70FF_FFFE => "pc relative" [0x001F_FFFF, 0, 30]), // adr x30, .-1
+    fits!(0xD000_0002 => "pc relative" [2, 1, 2]), // adrp x2, .+0x2000
+    fits!(0xF0FF_FFE3 => "pc relative" [0x001F_FFFF, 1, 3]), // adrp x3, .-0x1000
+    // width, op, set_flags, shifted, imm12, rn, rd
+    fits!(0x9100_1441 => "add immediate" [1, 0, 0, 0, 5, 2, 1]), // add x1, x2, #5
+    fits!(0x717F_FC83 => "add immediate" [0, 1, 1, 1, 4095, 4, 3]), // subs w3, w4, #0xfff, lsl #12
+    fits!(0xD100_43FF => "add immediate" [1, 1, 0, 0, 16, 31, 31]), // sub sp, sp, #16
+    // width, op, n, immr, imms, rn, rd
+    fits!(0x9200_F041 => "logical immediate" [1, 0, 0, 0, 60, 2, 1]), // and x1, x2, #0x5555555555555555
+    fits!(0x3200_1C83 => "logical immediate" [0, 1, 0, 0, 7, 4, 3]), // orr w3, w4, #0xff
+    fits!(0xD27F_F8C5 => "logical immediate" [1, 2, 1, 63, 62, 6, 5]), // eor x5, x6, #0xfffffffffffffffe
+    fits!(0x7202_0D07 => "logical immediate" [0, 3, 0, 2, 3, 8, 7]), // ands w7, w8, #0xc0000003
+    fits!(0xB210_3FE9 => "logical immediate" [1, 1, 0, 16, 15, 31, 9]), // orr x9, xzr, #0xffff0000ffff0000
+    // width, op, imm16, hw, rd
+    fits!(0x9280_0041 => "move wide" [1, 0, 2, 0, 1]), // movn x1, #2
+    fits!(0x52BF_FFE2 => "move wide" [0, 1, 0xFFFF, 1, 2]), // movz w2, #0xffff, lsl #16
+    fits!(0xF2E0_00E3 => "move wide" [1, 2, 7, 3, 3]), // movk x3, #7, lsl #48
     // width, op, immr, imms, rn, rd
     fits!(0x9343_A041 => "bitfield" [1, 0, 3, 40, 2, 1]), // sbfm x1, x2, #3, #40
     fits!(0x331F_0083 => "bitfield" [0, 1, 31, 0, 4, 3]), // bfm w3, w4, #31, #0
     fits!(0xD37F_F8C5 => "bitfield" [1, 2, 63, 62, 6, 5]), // ubfm x5, x6, #63, #62
-    // width, lowest, rm, rn, rd
+    // width, imms, rm, rn, rd
     fits!(0x93C3_FC41 => "extract" [1, 63, 3, 2, 1]), // extr x1, x2, x3, #63
     fits!(0x1386_7CA4 => "extract" [0, 31, 6, 5, 4]), // extr w4, w5, w6, #31
 ];
 
 /// Words of branches and system instructions. The line above each class names its fields in order.
 pub const BRANCHES: [Fits; 23] = [
-    // link, offset
-    fits!(0x15FF_FFFF => "branch" [0, 0x07FF_FFFC]), // b .+0x7fffffc
-    fits!(0x17FF_FFFF => "branch" [0, 0xFFFF_FFFF_FFFF_FFFC]), // b .-4
-    fits!(0x9600_0000 => "branch" [1, 0xFFFF_FFFF_F800_0000]), // bl .-0x8000000
-    // condition, offset
-    fits!(0x5400_0040 => "branch conditional" [0, 8]), // b.eq .+8
-    fits!(0x5480_000D => "branch conditional" [13, 0xFFFF_FFFF_FFF0_0000]), // b.le .-0x100000
-    fits!(0x547F_FFEF => "branch conditional" [15, 0x000F_FFFC]), // b.nv .+0xffffc
-    // width, nonzero, offset, rt
-    fits!(0xB400_0081 => "compare branch" [1, 0, 16, 1]), // cbz x1, .+16
-    fits!(0x35FF_FF82 => "compare branch" [0, 1, 0xFFFF_FFFF_FFFF_FFF0, 2]), // cbnz w2, .-16
-    // set, bit_number, offset, rt
-    fits!(0xB6FB_FFE1 => "test branch" [0, 63, 0x7FFC, 1]), // tbz x1, #63, .+0x7ffc
-    fits!(0x3724_0002 => "test branch" [1, 4, 0xFFFF_FFFF_FFFF_8000, 2]), // tbnz w2, #4, .-0x8000
+    // imm26, link
+    fits!(0x15FF_FFFF => "branch" [0x01FF_FFFF, 0]), // b .+0x7fffffc
+    fits!(0x17FF_FFFF => "branch" [0x03FF_FFFF, 0]), // b .-4
+    fits!(0x9600_0000 => "branch" [0x0200_0000, 1]), // bl .-0x8000000
+    // imm19, condition
+    fits!(0x5400_0040 => "branch conditional" [2, 0]), // b.eq .+8
+    fits!(0x5480_000D => "branch conditional" [0x0004_0000, 13]), // b.le .-0x100000
+    fits!(0x547F_FFEF => "branch conditional" [0x0003_FFFF, 15]), // b.nv .+0xffffc
+    // imm19, width, nonzero, rt
+    fits!(0xB400_0081 => "compare branch" [4, 1, 0, 1]), // cbz x1, .+16
+    fits!(0x35FF_FF82 => "compare branch" [0x0007_FFFC, 0, 1, 2]), // cbnz w2, .-16
+    // set, bit_number, imm14, rt
+    fits!(0xB6FB_FFE1 => "test branch" [0, 63, 8191, 1]), // tbz x1, #63, .+0x7ffc
+    fits!(0x3724_0002 => "test branch" [1, 4, 8192, 2]), // tbnz w2, #4, .-0x8000
     // kind, rn
     fits!(0xD61F_0020 => "branch register" [0, 1]), // br x1
     fits!(0xD63F_0040 => "branch register" [1, 2]), // blr x2
@@ -138,39 +138,39 @@ pub const DATA_REGISTERS: [Fits; 42] = [
 
 /// Words of loads and stores. The line above each class names its fields in order.
 pub const LOADS_STORES: [Fits; 43] = [
-    // size, transfer, offset, rn, rt
-    fits!(0xF93F_FC41 => "load store unsigned" [3, 0, 0x7FF8, 2, 1]), // str x1, [x2, #32760]
-    fits!(0xB940_07E3 => "load store unsigned" [2, 1, 4, 31, 3]), // ldr w3, [sp, #4]
+    // size, transfer, imm12, rn, rt
+    fits!(0xF93F_FC41 => "load store unsigned" [3, 0, 4095, 2, 1]), // str x1, [x2, #32760]
+    fits!(0xB940_07E3 => "load store unsigned" [2, 1, 1, 31, 3]), // ldr w3, [sp, #4]
     fits!(0x39BF_FCA4 => "load store unsigned" [0, 2, 4095, 5, 4]), // ldrsb x4, [x5, #4095]
-    fits!(0x79C0_04E6 => "load store unsigned" [1, 3, 2, 7, 6]), // ldrsh w6, [x7, #2]
-    fits!(0xB980_0928 => "load store unsigned" [2, 2, 8, 9, 8]), // ldrsw x8, [x9, #8]
-    fits!(0xF980_0540 => "load store unsigned" [3, 4, 8, 10, 0]), // prfm pldl1keep, [x10, #8]
+    fits!(0x79C0_04E6 => "load store unsigned" [1, 3, 1, 7, 6]), // ldrsh w6, [x7, #2]
+    fits!(0xB980_0928 => "load store unsigned" [2, 2, 2, 9, 8]), // ldrsw x8, [x9, #8]
+    fits!(0xF980_0540 => "load store unsigned" [3, 4, 1, 10, 0]), // prfm pldl1keep, [x10, #8]
     fits!(0x3900_018B => "load store unsigned" [0, 0, 0, 12, 11]), // strb w11, [x12]
-    // size, transfer, indexing, offset, rn, rt
-    fits!(0xF810_0041 => "load store indexed" [3, 0, 0, 0xFFFF_FFFF_FFFF_FF00, 2, 1]), // stur x1, [x2, #-256]
-    fits!(0x784F_F083 => "load store indexed" [1, 1, 0, 255, 4, 3]), // ldurh w3, [x4, #255]
-    fits!(0xF89F_F0A0 => "load store indexed" [3, 4, 0, 0xFFFF_FFFF_FFFF_FFFF, 5, 0]), // prfum pldl1keep, [x5, #-1]
-    fits!(0xB85F_C4E6 => "load store indexed" [2, 1, 1, 0xFFFF_FFFF_FFFF_FFFC, 7, 6]), // ldr w6, [x7], #-4
-    fits!(0x7800_27E8 => "load store indexed" [1, 0, 1, 2, 31, 8]), // strh w8, [sp], #2
-    fits!(0x38DF_FD49 => "load store indexed" [0, 3, 2, 0xFFFF_FFFF_FFFF_FFFF, 10, 9]), // ldrsb w9, [x10, #-1]!
-    fits!(0xB880_CFEB => "load store indexed" [2, 2, 2, 12, 31, 11]), // ldrsw x11, [sp, #12]!
-    fits!(0xF81F_0FFF => "load store indexed" [3, 0, 2, 0xFFFF_FFFF_FFFF_FFF0, 31, 31]), // str xzr, [sp, #-16]!
-    // size, transfer, extend, amount, rm, rn, rt
+    // imm9, size, transfer, indexing, rn, rt
+    fits!(0xF810_0041 => "load store indexed" [256, 3, 0, 0, 2, 1]), // stur x1, [x2, #-256]
+    fits!(0x784F_F083 => "load store indexed" [255, 1, 1, 0, 4, 3]), // ldurh w3, [x4, #255]
+    fits!(0xF89F_F0A0 => "load store indexed" [511, 3, 4, 0, 5, 0]), // prfum pldl1keep, [x5, #-1]
+    fits!(0xB85F_C4E6 => "load store indexed" [508, 2, 1, 1, 7, 6]), // ldr w6, [x7], #-4
+    fits!(0x7800_27E8 => "load store indexed" [2, 1, 0, 1, 31, 8]), // strh w8, [sp], #2
+    fits!(0x38DF_FD49 => "load store indexed" [511, 0, 3, 2, 10, 9]), // ldrsb w9, [x10, #-1]!
+    fits!(0xB880_CFEB => "load store indexed" [12, 2, 2, 2, 31, 11]), // ldrsw x11, [sp, #12]!
+    fits!(0xF81F_0FFF => "load store indexed" [496, 3, 0, 2, 31, 31]), // str xzr, [sp, #-16]!
+    // size, transfer, extend, scaled, rm, rn, rt
     fits!(0xF863_6841 => "load store register" [3, 1, 3, 0, 3, 2, 1]), // ldr x1, [x2, x3]
-    fits!(0xB826_58A4 => "load store register" [2, 0, 2, 2, 6, 5, 4]), // str w4, [x5, w6, uxtw #2]
+    fits!(0xB826_58A4 => "load store register" [2, 0, 2, 1, 6, 5, 4]), // str w4, [x5, w6, uxtw #2]
     fits!(0x78A9_D907 => "load store register" [1, 2, 6, 1, 9, 8, 7]), // ldrsh x7, [x8, w9, sxtw #1]
     fits!(0x386B_EBEA => "load store register" [0, 1, 7, 0, 11, 31, 10]), // ldrb w10, [sp, x11, sxtx]
-    fits!(0xF8AD_7980 => "load store register" [3, 4, 3, 3, 13, 12, 0]), // prfm pldl1keep, [x12, x13, lsl #3]
-    // kind, offset, rt
-    fits!(0x187F_FFE1 => "load literal" [0, 0x000F_FFFC, 1]), // ldr w1, .+0xffffc
-    fits!(0x5880_0002 => "load literal" [1, 0xFFFF_FFFF_FFF0_0000, 2]), // ldr x2, .-0x100000
-    fits!(0x9800_0023 => "load literal" [2, 4, 3]), // ldrsw x3, .+4
-    fits!(0xD8FF_FFE0 => "load literal" [3, 0xFFFF_FFFF_FFFF_FFFC, 0]), // prfm pldl1keep, .-4
-    // kind, load, indexing, offset, rt2, rn, rt
-    fits!(0xA9A0_7BFD => "load store pair" [2, 0, 2, 0xFFFF_FFFF_FFFF_FE00, 30, 31, 29]), // stp x29, x30, [sp, #-512]!
-    fits!(0x295F_8861 => "load store pair" [0, 1, 0, 252, 2, 3, 1]), // ldp w1, w2, [x3, #252]
-    fits!(0x68E0_14C4 => "load store pair" [1, 1, 1, 0xFFFF_FFFF_FFFF_FF00, 5, 6, 4]), // ldpsw x4, x5, [x6], #-256
-    fits!(0xA8DF_A3E7 => "load store pair" [2, 1, 1, 504, 8, 31, 7]), // ldp x7, x8, [sp], #504
+    fits!(0xF8AD_7980 => "load store register" [3, 4, 3, 1, 13, 12, 0]), // prfm pldl1keep, [x12, x13, lsl #3]
+    // imm19, kind, rt
+    fits!(0x187F_FFE1 => "load literal" [0x0003_FFFF, 0, 1]), // ldr w1, .+0xffffc
+    fits!(0x5880_0002 => "load literal" [0x0004_0000, 1, 2]), // ldr x2, .-0x100000
+    fits!(0x9800_0023 => "load literal" [1, 2, 3]), // ldrsw x3, .+4
+    fits!(0xD8FF_FFE0 => "load literal" [0x0007_FFFF, 3, 0]), // prfm pldl1keep, .-4
+    // kind, load, indexing, imm7, rt2, rn, rt
+    fits!(0xA9A0_7BFD => "load store pair" [2, 0, 2, 64, 30, 31, 29]), // stp x29, x30, [sp, #-512]!
+    fits!(0x295F_8861 => "load store pair" [0, 1, 0, 63, 2, 3, 1]), // ldp w1, w2, [x3, #252]
+    fits!(0x68E0_14C4 => "load store pair" [1, 1, 1, 64, 5, 6, 4]), // ldpsw x4, x5, [x6], #-256
+    fits!(0xA8DF_A3E7 => "load store pair" [2, 1, 1, 63, 8, 31, 7]), // ldp x7, x8, [sp], #504
     fits!(0x2900_2549 => "load store pair" [0, 0, 0, 0, 9, 10, 9]), // stp w9, w9, [x10]
     // size, rs, rn, rt
     fits!(0xC801_7C62 => "store exclusive" [3, 1, 3, 2]), // stxr w1, x2, [x3]
