@@ -2,7 +2,8 @@
 use Rattle.std.proofs.Common.{◌≡◌, ℕ, zero, suc, ◌+◌, ◌*◌, ◌/◌, ◌%◌, ◌^◌, ◌<◌, ◌≤◌, List, [], ◌∷◌, ◌++◌, length, take, drop, refl, sym, ap, ◌∙◌, arith}
 use Rattle.std.specs.Prelude.{slice_index}
 use Rattle.std.specs.Int.{byte_at, bytes_low_first}
-use Rattle.std.proofs.Math.Nat.{div-div-eq-div-mul, pow-succ'}
+use Rattle.std.proofs.Math.Nat.{div-div-eq-div-mul, one-le-pow, pow-suc, pow-succ'}
+use lib.Arith.{mod-mul}
 use Rattle.std.proofs.lemmas.List.{drop_at, get_or-drop, length-drop}
 use Rattle.byteorder.specs.Endian.{little_from}
 use Rattle.byteorder.specs.Numbers.{little_from-cons, little_from-lt, little_number-reads_back, length-bytes_low_first}
@@ -46,3 +47,23 @@ number_at-bytes_of front rest n at k e lt =
 pub bytes_of-number_at : (bytes : List ℕ) (at k : ℕ) → at + k ≤ length bytes → ((i : ℕ) → slice_index bytes i < 256) → bytes_of (number_at bytes at k) k ≡ take k (drop at bytes)
 bytes_of-number_at bytes at k long fits =
     bytes_of-number k (drop at bytes) (omega (arith, length-drop at bytes)) (λ i. rw (get_or-drop at bytes i 0) (fits (at + i)))
+
+-- the first bytes of a number's bytes are its bytes
+take-low_first : (i k m n : ℕ) → k ≤ m → take k (bytes_low_first i m n) ≡ bytes_low_first i k n
+take-low_first i zero m n le = refl
+take-low_first i (suc k) zero n le = absurd (omega arith)
+take-low_first i (suc k) (suc m) n le = ap (λ (bs : List ℕ). byte_at i n ∷ bs) (take-low_first (suc i) k m n (omega arith))
+
+pub take-bytes_of : (n m k : ℕ) → k ≤ m → take k (bytes_of n m) ≡ bytes_of n k
+take-bytes_of n m k le = take-low_first 0 k m n le
+
+-- the k bytes of a number are those of it modulo 256 ^ m, for any m from k on
+pub bytes_of-mod : (m k n : ℕ) → k ≤ m → bytes_of (n % 256 ^ m) k ≡ bytes_of n k
+bytes_of-mod m zero n le = refl
+bytes_of-mod zero (suc k) n le = absurd (omega arith)
+bytes_of-mod (suc m) (suc k) n le =
+    let some : 1 ≤ 256 ^ m = one-le-pow m 256 (omega arith) in
+    let split : n % 256 ^ suc m ≡ n / 256 % 256 ^ m * 256 + n % 256 = ap (λ (p : ℕ). n % p) (pow-suc 256 m) ∙ mod-mul n {m = 256 ^ m} {c = 256} (omega arith) (omega arith) in
+    let low : n % 256 ^ suc m % 256 ≡ n % 256 = omega (arith, split) in
+    let high : n % 256 ^ suc m / 256 ≡ n / 256 % 256 ^ m = omega (arith, split) in
+    rw (bytes_low_first-suc 0 k (n % 256 ^ suc m), bytes_low_first-suc 0 k n, low, high, bytes_of-mod m k (n / 256) (omega arith)) refl

@@ -1,0 +1,20 @@
+use Rattle.std.proofs.Common.{◌≡◌, ◌-◌, true, false, sym, ap, ◌∙◌, if◌then◌else◌}
+use Rattle.std.specs.FinMap as finite
+use Rattle.guest_mem.specs.Pages.{has_any, changed, blanked, blank}
+use Rattle.guest_mem.proofs.Changed.{renewed}
+use Rattle.guest_mem.proofs.shard.Shard.map_page.Goals as goal
+
+-- a kept page gets the rights and is made zeros
+pub returns-then-set_rights-clause-ok : goal.returns-then-set_rights-clause-ok
+returns-then-set_rights-clause-ok c =
+    let pages = c.self.inside.pages.pages in
+    let spare = c.self.inside.pages.spare in
+    let page = c.args.page in
+    let rights = c.args.rights in
+    let has : has_any rights ≡ true = sym c.has_any_right.ensures ∙ c.if-not-has_any_right.false in
+    let kept : finite.contains_key pages page ≡ true = sym c.set_rights.ensures.kept ∙ c.if-set_rights.true in
+    let pages_are : c.zero.new.self.pages ≡ finite.insert pages page record { rights = rights; bytes = blank } =
+    ap (λ k. k.pages) c.zero.ensures.after ∙ ap (λ k. changed k.pages page blanked) c.set_rights.ensures.after ∙ renewed pages page rights kept in
+    let spare_is : c.zero.new.self.spare ≡ (if finite.contains_key pages page then spare else spare - 1) =
+    rw kept (ap (λ k. k.spare) c.zero.ensures.after ∙ ap (λ k. k.spare) c.set_rights.ensures.after) in
+    rw (← c.self.view_is) (rw has (λ i. record { index = c.self.inside.index; pages = pages_are i; marks = c.end_on_page.ensures i; spare = spare_is i }))
