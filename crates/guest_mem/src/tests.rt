@@ -23,8 +23,9 @@ const READ_WRITE: Rights = Rights {
 // What the swapped number is at first.
 const OLD: u64 = 0xf0f0_f0f0_f0f0_f0f0;
 
+// Stores of the thread that marked leave its mark, and one of another thread ends it.
 #[test]
-fn own_stores_leave_a_mark(rt: HostRuntime) -> Result<(), Fail> {
+fn shard_marks(rt: HostRuntime) -> Result<(), Fail> {
     let mut shard = Shard::make(rt.alloc(), 0, 1)?;
     shard.map_page(0x410, READ_WRITE)?;
     shard.mark(0, 0x41_0000);
@@ -35,8 +36,9 @@ fn own_stores_leave_a_mark(rt: HostRuntime) -> Result<(), Fail> {
     Ok(())
 }
 
+// A store of another thread ends a mark on the granules that it touches, and no other.
 #[test]
-fn a_store_ends_a_mark_on_its_granule_alone(rt: HostRuntime) -> Result<(), Fail> {
+fn exclusive_mark_lost(rt: HostRuntime) -> Result<(), Fail> {
     let mut shard = Shard::make(rt.alloc(), 0, 1)?;
     shard.map_page(0x410, READ_WRITE)?;
     shard.mark(0, 0x41_0000);
