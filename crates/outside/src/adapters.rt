@@ -29,7 +29,7 @@ impl<R: Read> StdSource<R> {
 }
 
 impl<R: Read> Source for StdSource<R> {
-    ghost left = { λ faults. None };
+    ghost left = { λ s. R.remaining s.from };
 
     ghost faults = { λ s. s.faults };
 
@@ -64,7 +64,7 @@ impl<W: Write> StdSink<W> {
 }
 
 impl<W: Write> Sink for StdSink<W> {
-    ghost taken = { λ faults. None };
+    ghost taken = { λ s. W.contents s.to };
 
     ghost faults = { λ s. s.faults };
 
