@@ -15,6 +15,7 @@ use Rattle.a64_model.specs.declared.access.Access.{Access}
 use Rattle.a64_model.specs.declared.access.Access.TheVariants as access
 use Rattle.a64_model.specs.declared.access.Answer.{Answer}
 use Rattle.a64_model.specs.declared.access.Answer.TheVariants as answer
+use Rattle.a64_model.specs.declared.access.Fault.{Fault}
 use Rattle.a64_model.specs.declared.access.Next.{Next}
 use Rattle.a64_model.specs.declared.access.Next.TheVariants.{Go, Call, Trap}
 
@@ -102,7 +103,11 @@ followed_by regs instr.SupervisorCall = Call
 followed_by regs instr.Breakpoint = Trap 5 (pos 1) regs.pc
 followed_by regs _ = Go
 
--- what comes after the instruction: a fault is SIGSEGV, 11, whose code 0 is judged when the signal is taken
+-- a fault is SIGSEGV, 11, whose code 0 is judged when the signal is taken
+abbrev pub faulted : Fault → Next
+faulted f = Trap 11 (pos 0) f.address
+
+-- what comes after the instruction
 abbrev pub next : Regs → Instr → Answer → Next
-next regs i (answer.Fault f) = Trap 11 (pos 0) f.address
+next regs i (answer.Fault f) = faulted f
 next regs i a = followed_by regs i

@@ -11,7 +11,7 @@ pub mod branches;
 pub mod data_registers;
 pub mod immediates;
 pub mod loads_stores;
-mod operands;
+pub mod operands;
 
 use branches::{
     branch, branch_conditional, branch_register, compare_branch, read_thread_pointer, test_branch,

@@ -48,7 +48,7 @@ fn element_log(n: u32, imms: u32) -> u32
 }
 
 /// The number of bits of those elements.
-fn element_size(n: u32, imms: u32) -> u32
+pub fn element_size(n: u32, imms: u32) -> u32
     requires bit { n < 2 }
     requires six_bits { imms < 64 }
     ensures value { result ≡ element_size n imms }

@@ -1,0 +1,3 @@
+pub mod Widths
+pub mod SumFlags
+pub mod Fields
