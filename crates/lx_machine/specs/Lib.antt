@@ -1,0 +1,9 @@
+pub mod Calls
+pub mod Instructions
+pub mod Lists
+pub mod Memory
+pub mod Pieces
+pub mod Signals
+pub mod State
+pub mod Step
+pub mod Threads

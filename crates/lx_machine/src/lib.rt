@@ -1,0 +1,12 @@
+//! The Linux machine's parts: threads and their calls, files, signals, and the labels that name its steps.
+//!
+//! What the machine is stands in `specs/`: its state in `State.antt`, one step of it in `Step.antt`. It speaks in the terms
+//! of the manual pages and of Linux numbers alone.
+#![tactic(auto)]
+
+pub mod buffer;
+pub mod calls;
+pub mod files;
+pub mod label;
+pub mod signals;
+pub mod threads;
