@@ -3,7 +3,6 @@ use Rattle.std.specs.Prelude.{ℕ, ◌+◌, ◌-◌, ◌%◌, ◌^◌, Bool, tru
 use Rattle.std.proofs.Math.Bool.{not}
 use Rattle.places.specs.Places as place
 use Rattle.places.specs.Places.{bytes_of, number_of}
-use Rattle.guest_mem.specs.Pages.{reads, writes}
 use Rattle.guest_mem.specs.Swaps.{outcome, has_outcome}
 use Rattle.a64_model.specs.Rows.{row}
 use Rattle.a64_model.specs.Exec.{needed, after, next}
@@ -19,7 +18,9 @@ use Rattle.a64_model.specs.declared.access.Next.TheVariants.{Go, Call, Trap}
 use Rattle.linux_abi.specs.declared.signals.LinuxSig.{LinuxSig}
 use Rattle.linux_abi.specs.declared.signals.LinuxSig.TheVariants as signal
 use Rattle.lx_machine.specs.Calls.{new_call}
-use Rattle.lx_machine.specs.Memory.{executes, first_lacking, bytes_at, with_bytes, allowed}
+use Rattle.lx_memory.specs.Bytes.{bytes_at, with_bytes}
+use Rattle.lx_memory.specs.declared.right.Right.TheVariants.{Read, Write, Execute}
+use Rattle.lx_machine.specs.Memory.{first_lacking, is_allowed}
 use Rattle.lx_machine.specs.State.{LinuxState}
 use Rattle.lx_machine.specs.Threads.{with_thread, with_call, with_regs, trapped, after_write}
 use Rattle.lx_machine.specs.declared.calls.LxCall.{LxCall}
@@ -92,10 +93,10 @@ swap L s t at len op value expected None =
 
 abbrev pub accessed : LinuxState → ℕ → LxThread → Access → Answered
 accessed L s t access.None = record { state = L; thread = t; answer = answer.Done }
-accessed L s t (access.Load at len mark) = load L t at len mark (first_lacking reads L.space.pages at len)
-accessed L s t (access.Store at len bytes false) = store L s t at (take len bytes) (first_lacking writes L.space.pages at len)
-accessed L s t (access.Store at len bytes true) = store_exclusive L s t at (take len bytes) (first_lacking writes L.space.pages at len)
-accessed L s t (access.Swap at len op value expected) = swap L s t at len op value expected (first_lacking writes L.space.pages at len)
+accessed L s t (access.Load at len mark) = load L t at len mark (first_lacking Read L.space.pages at len)
+accessed L s t (access.Store at len bytes false) = store L s t at (take len bytes) (first_lacking Write L.space.pages at len)
+accessed L s t (access.Store at len bytes true) = store_exclusive L s t at (take len bytes) (first_lacking Write L.space.pages at len)
+accessed L s t (access.Swap at len op value expected) = swap L s t at len op value expected (first_lacking Write L.space.pages at len)
 accessed L s t access.ClearMark = record { state = L; thread = without_mark t; answer = answer.Done }
 
 -- ---- the instruction
@@ -130,5 +131,5 @@ executed enter L s t None = with_thread L s (trapped t signal.SIGILL (pos 1) t.r
 abbrev pub instruction : (LxThread → LxCall → LxCall) → LinuxState → ℕ → LxThread → LinuxState
 instruction enter L s t =
     if not (t.regs.pc % 4 == 0) then with_thread L s (trapped t signal.SIGBUS (pos 1) t.regs.pc) else (
-    if allowed executes L.space.pages t.regs.pc 4 then executed enter L s t (row (number_of (bytes_at L.space.pages t.regs.pc 4)))
+    if is_allowed Execute L.space.pages t.regs.pc 4 then executed enter L s t (row (number_of (bytes_at L.space.pages t.regs.pc 4)))
     else with_thread L s (trapped t signal.SIGSEGV (pos 0) t.regs.pc))

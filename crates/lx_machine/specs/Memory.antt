@@ -1,51 +1,51 @@
--- How instructions and calls read and write memory, byte by byte. Source: mmap(2), mprotect(2); the limit of the address
--- space is this project's own.
-use Rattle.std.specs.Prelude.{ℕ, zero, suc, ◌+◌, ◌-◌, ◌%◌, ◌^◌, Bool, true, false, ◌&&◌, nat_lt, List, [], ◌∷◌, Option, Some, None, slice_index, if◌then◌else◌}
+-- How instructions and calls look at memory. Source: mmap(2), mprotect(2); the limit of the address space is this
+-- project's own.
+use Rattle.std.specs.Prelude.{ℕ, zero, suc, ◌+◌, ◌-◌, ◌^◌, ◌%◌, Bool, true, false, ◌&&◌, ◌||◌, nat_lt, nat_le, Option, Some, None, is_some, if◌then◌else◌}
+use Rattle.std.proofs.Math.Bool.{not}
 use Rattle.std.specs.FinMap as map
-use Rattle.places.specs.Places as place
-use Rattle.vm_areas.specs.declared.runs.Rights.{Rights}
-use Rattle.guest_mem.specs.Pages.{Page, Pages, changed, written, reads, writes}
+use Rattle.lx_memory.specs.Access.{has, lacks, allows}
+use Rattle.lx_memory.specs.declared.right.Right.{Right}
+use Rattle.lx_memory.specs.declared.right.Right.TheVariants.{Execute}
+use Rattle.page_store.specs.Pages.{Page, Pages}
 
-abbrev pub executes : Rights → Bool
-executes rights = rights.execute
-
--- a page is mapped with the right
-abbrev pub page_has : (Rights → Bool) → Option Page → Bool
-page_has right None = false
-page_has right (Some page) = right page.rights
-
--- the byte at an address may be used so: the address is in the address space, and its page is mapped with the right
-abbrev pub has_right : (Rights → Bool) → Pages → ℕ → Bool
-has_right right pages at = nat_lt at (2 ^ 64) && page_has right (map.get pages (place.page at))
-
--- the first byte of a range that may not be used so, if there is one
-abbrev pub first_lacking : (Rights → Bool) → Pages → ℕ → ℕ → Option ℕ
+-- the first byte of a range that may not be accessed so, if there is one
+abbrev pub first_lacking : Right → Pages → ℕ → ℕ → Option ℕ
 first_lacking right pages at zero = None
-first_lacking right pages at (suc len) = if has_right right pages at then first_lacking right pages (suc at) len else Some at
+first_lacking right pages at (suc len) =
+    if lacks pages (allows right) at then Some (at % 2 ^ 64) else first_lacking right pages (suc at) len
 
--- Allowed: each byte of the range may be used so
-abbrev pub allowed : (Rights → Bool) → Pages → ℕ → ℕ → Bool
-allowed right pages at zero = true
-allowed right pages at (suc len) = has_right right pages at && allowed right pages (suc at) len
+-- Allowed: each byte of the range may be accessed so
+abbrev pub is_allowed : Right → Pages → ℕ → ℕ → Bool
+is_allowed right pages at len = not (is_some (first_lacking right pages at len))
 
--- the byte at an address of a mapped page
-abbrev pub byte_of : Option Page → ℕ → ℕ
-byte_of None at = 0
-byte_of (Some page) at = slice_index page.bytes (at % 4096)
+-- the test holds of each page of a range
+abbrev pub all_pages : (Option Page → Bool) → Pages → ℕ → ℕ → Bool
+all_pages test pages first zero = true
+all_pages test pages first (suc count) = test (map.get pages first) && all_pages test pages (suc first) count
 
-abbrev pub byte_at : Pages → ℕ → ℕ
-byte_at pages at = byte_of (map.get pages (place.page at)) at
+-- each page of a range is mapped; none is
+abbrev pub all_mapped : Pages → ℕ → ℕ → Bool
+all_mapped pages first count = all_pages is_some pages first count
 
--- the bytes of a range
-abbrev pub bytes_at : Pages → ℕ → ℕ → List ℕ
-bytes_at pages at zero = []
-bytes_at pages at (suc len) = byte_at pages at ∷ bytes_at pages (suc at) len
+abbrev pub is_free : Option Page → Bool
+is_free page = not (is_some page)
 
--- a byte written at an address of a mapped page
-abbrev pub with_byte : Pages → ℕ → ℕ → Pages
-with_byte pages at byte = changed pages (place.page at) (written (at % 4096) (byte ∷ []))
+abbrev pub all_free : Pages → ℕ → ℕ → Bool
+all_free pages first count = all_pages is_free pages first count
 
--- bytes written from an address on
-abbrev pub with_bytes : Pages → ℕ → List ℕ → Pages
-with_bytes pages at [] = pages
-with_bytes pages at (byte ∷ bytes) = with_bytes (with_byte pages at byte) (suc at) bytes
+-- some page of a range is mapped with the right to execute
+abbrev pub no_code : Option Page → Bool
+no_code page = not (has (allows Execute) page)
+
+abbrev pub any_executable : Pages → ℕ → ℕ → Bool
+any_executable pages first count = not (all_pages no_code pages first count)
+
+-- the greatest first page, below this one and not below `low`, of so many free pages, if there is one
+abbrev pub highest_gap_below : Pages → ℕ → ℕ → ℕ → Option ℕ
+highest_gap_below pages count low zero = None
+highest_gap_below pages count low (suc first) =
+    if nat_le low first && all_free pages first count then Some first else highest_gap_below pages count low first
+
+-- the same among the ranges that end at or below `high`
+abbrev pub highest_gap : Pages → ℕ → ℕ → ℕ → Option ℕ
+highest_gap pages count low high = if nat_le count high then highest_gap_below pages count low (suc (high - count)) else None

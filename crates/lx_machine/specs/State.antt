@@ -1,6 +1,6 @@
 -- LinuxState: the state of the Linux machine.
 use Rattle.std.specs.Prelude.{ℕ, List, Option}
-use Rattle.guest_mem.specs.Pages.{Pages}
+use Rattle.page_store.specs.Pages.{Pages}
 use Rattle.lx_machine.specs.declared.threads.LxThread.{LxThread}
 use Rattle.lx_machine.specs.declared.threads.LxWaiter.{LxWaiter}
 use Rattle.lx_machine.specs.declared.threads.GuestEnd.{GuestEnd}

@@ -4,7 +4,6 @@ use Rattle.std.specs.Prelude.{ℕ, zero, suc, ◌+◌, ◌-◌, ◌%◌, ◌^◌
 use Rattle.std.proofs.Math.Bool.{not}
 use Rattle.std.specs.FinMap as map
 use Rattle.places.specs.Places as place
-use Rattle.guest_mem.specs.Pages.{reads, writes}
 use Rattle.linux_abi.specs.LinuxSig.{signal_number, is_dropped_by_default}
 use Rattle.linux_abi.specs.declared.errno.LinuxErrno.TheVariants as errno
 use Rattle.linux_abi.specs.declared.signals.LinuxSig.{LinuxSig}
@@ -12,7 +11,9 @@ use Rattle.linux_abi.specs.declared.signals.LinuxSig.TheVariants as signal
 use Rattle.lx_machine.specs.Lists.{bind, at_place}
 use Rattle.lx_machine.specs.Pieces.{without_first}
 use Rattle.lx_machine.specs.Calls.{refused}
-use Rattle.lx_machine.specs.Memory.{allowed, bytes_at}
+use Rattle.lx_memory.specs.Bytes.{bytes_at}
+use Rattle.lx_memory.specs.declared.right.Right.TheVariants.{Read, Write}
+use Rattle.lx_machine.specs.Memory.{is_allowed}
 use Rattle.lx_machine.specs.State.{LinuxState}
 use Rattle.lx_machine.specs.Threads.{with_thread, with_call, in_call_of}
 use Rattle.lx_machine.specs.Instructions.{instruction, stored}
@@ -68,7 +69,7 @@ with_fetched c bytes = record c { fetched = c.fetched + 1; pieces = without_firs
 
 abbrev pub fetch_of : (LxCall → LxCall) → LinuxState → ℕ → LxThread → LxCall → Piece → LinuxState
 fetch_of fetched L s t c p =
-    if allowed reads L.space.pages p.at p.len then in_call_of L s t (fetched (with_fetched c (bytes_at L.space.pages p.at p.len)))
+    if is_allowed Read L.space.pages p.at p.len then in_call_of L s t (fetched (with_fetched c (bytes_at L.space.pages p.at p.len)))
     else in_call_of L s t (refused c errno.EFAULT)
 
 abbrev pub fetch : (LxCall → LxCall) → LinuxState → ℕ → LxThread → LxCall → Stage → Option LinuxState
@@ -81,7 +82,7 @@ with_stored c len = record c { pieces = without_first c.pieces; bytes = drop len
 
 abbrev pub store_of : LinuxState → ℕ → LxThread → LxCall → Piece → LinuxState
 store_of L s t c p =
-    if allowed writes L.space.pages p.at p.len then in_call_of (stored L s p.at (take p.len c.bytes)) s t (with_stored c p.len)
+    if is_allowed Write L.space.pages p.at p.len then in_call_of (stored L s p.at (take p.len c.bytes)) s t (with_stored c p.len)
     else in_call_of L s t (refused c errno.EFAULT)
 
 abbrev pub store : LinuxState → ℕ → LxThread → LxCall → Stage → Option LinuxState

@@ -1,0 +1,2 @@
+//! What the calls of the Linux machine do.
+#![tactic(auto)]

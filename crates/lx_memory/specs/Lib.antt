@@ -1,0 +1,4 @@
+pub mod Access
+pub mod Bytes
+pub mod Ranges
+pub mod Gaps
