@@ -1,2 +1,4 @@
-//! What the calls of the Linux machine do.
+//! What the calls of the Linux machine do: the plain functions that compute the effects of `specs/`.
 #![tactic(auto)]
+
+pub mod files;

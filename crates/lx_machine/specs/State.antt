@@ -4,10 +4,7 @@ use Rattle.page_store.specs.Pages.{Pages}
 use Rattle.lx_machine.specs.declared.threads.LxThread.{LxThread}
 use Rattle.lx_machine.specs.declared.threads.LxWaiter.{LxWaiter}
 use Rattle.lx_machine.specs.declared.threads.GuestEnd.{GuestEnd}
-use Rattle.lx_machine.specs.declared.files.Descriptor.{Descriptor}
-use Rattle.lx_machine.specs.declared.files.OpenFile.{OpenFile}
-use Rattle.lx_machine.specs.declared.files.Counter.{Counter}
-use Rattle.lx_machine.specs.declared.files.Interest.{Interest}
+use Rattle.lx_machine.specs.declared.files.Files.{Files}
 use Rattle.lx_machine.specs.declared.signals.Action.{Action}
 use Rattle.lx_machine.specs.declared.signals.SigInfo.{SigInfo}
 
@@ -16,20 +13,6 @@ pub record Space : Type 0 where
   pub pages : Pages
   pub break_at : ℕ
   pub break_start : ℕ
-
--- files: descriptors, open files, pipes, counters and epolls, each at its number; the bytes of the input that are left;
--- what the two console rooms hold; and all bytes ever put into each
-pub record Files : Type 0 where
-  pub descriptors : List (Option Descriptor)
-  pub files : List (Option OpenFile)
-  pub pipes : List (Option (List ℕ))
-  pub counters : List (Option Counter)
-  pub epolls : List (Option (List Interest))
-  pub input : List ℕ
-  pub out : List ℕ
-  pub err : List ℕ
-  pub put_out : List ℕ
-  pub put_err : List ℕ
 
 -- the state: 32 places for threads, memory, the one futex queue in order of queueing, files, the actions of signals 1 to
 -- 64, the pending signals of the process, the clock in microseconds, the next tid, and the end once the guest has ended

@@ -52,4 +52,4 @@ unmarked_from at s first last (t ∷ ts) = (if at == s then t else unmarked firs
 
 -- the threads after the thread in slot s has written so many bytes from an address on
 abbrev pub after_write : ℕ → ℕ → ℕ → List (Option LxThread) → List (Option LxThread)
-after_write s at len ts = unmarked_from 0 s (place.granule at) (place.granule (at + len - 1)) ts
+after_write s at len ts = if len == 0 then ts else unmarked_from 0 s (place.granule at) (place.granule (at + len - 1)) ts
