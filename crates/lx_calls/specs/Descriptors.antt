@@ -11,7 +11,7 @@ use Rattle.linux_abi.specs.declared.errno.LinuxErrno.TheVariants as errno
 use Rattle.lx_machine.specs.Lists.{bind, at_place, with_place, first_free, first_free_from}
 use Rattle.lx_machine.specs.Pieces.{piece}
 use Rattle.lx_machine.specs.Calls.{argument, low_argument, answered, answered_with, refused}
-use Rattle.lx_machine.specs.State.{LinuxState}
+use Rattle.lx_machine.specs.declared.state.LinuxState.{LinuxState}
 use Rattle.lx_machine.specs.declared.files.Files.{Files}
 use Rattle.lx_machine.specs.declared.calls.LxCall.{LxCall}
 use Rattle.lx_machine.specs.declared.files.Counter.{Counter}

@@ -6,7 +6,7 @@ use Rattle.linux_abi.specs.declared.calls.Call.TheVariants as call
 use Rattle.lx_machine.specs.Lists.{without_place}
 use Rattle.lx_machine.specs.Pieces.{piece}
 use Rattle.lx_machine.specs.Calls.{argument, low_argument, answered, answered_with}
-use Rattle.lx_machine.specs.State.{LinuxState}
+use Rattle.lx_machine.specs.declared.state.LinuxState.{LinuxState}
 use Rattle.lx_machine.specs.Threads.{in_call_of}
 use Rattle.lx_machine.specs.declared.calls.LxCall.{LxCall}
 use Rattle.lx_machine.specs.declared.threads.LxThread.{LxThread}

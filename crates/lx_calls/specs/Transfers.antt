@@ -16,7 +16,7 @@ use Rattle.lx_machine.specs.Pieces.{total}
 use Rattle.lx_machine.specs.Calls.{argument, low_argument, answered, answered_with, refused}
 use Rattle.lx_machine.specs.Signals.{is_of}
 use Rattle.lx_machine.specs.Step.{action_of}
-use Rattle.lx_machine.specs.State.{LinuxState}
+use Rattle.lx_machine.specs.declared.state.LinuxState.{LinuxState}
 use Rattle.lx_machine.specs.declared.files.Files.{Files}
 use Rattle.lx_machine.specs.Threads.{with_thread, with_call, in_call_of}
 use Rattle.lx_machine.specs.declared.calls.LxCall.{LxCall}

@@ -21,7 +21,7 @@ use Rattle.lx_machine.specs.Calls.{new_call}
 use Rattle.lx_memory.specs.Bytes.{bytes_at, with_bytes}
 use Rattle.lx_memory.specs.declared.right.Right.TheVariants.{Read, Write, Execute}
 use Rattle.lx_machine.specs.Memory.{first_lacking, is_allowed}
-use Rattle.lx_machine.specs.State.{LinuxState}
+use Rattle.lx_machine.specs.declared.state.LinuxState.{LinuxState}
 use Rattle.lx_machine.specs.Threads.{with_thread, with_call, with_regs, trapped, after_write}
 use Rattle.lx_machine.specs.declared.calls.LxCall.{LxCall}
 use Rattle.lx_machine.specs.declared.threads.LxThread.{LxThread}

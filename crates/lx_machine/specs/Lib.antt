@@ -4,6 +4,5 @@ pub mod Lists
 pub mod Memory
 pub mod Pieces
 pub mod Signals
-pub mod State
 pub mod Step
 pub mod Threads

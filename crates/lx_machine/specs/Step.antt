@@ -14,7 +14,7 @@ use Rattle.lx_machine.specs.Calls.{refused}
 use Rattle.lx_memory.specs.Bytes.{bytes_at}
 use Rattle.lx_memory.specs.declared.right.Right.TheVariants.{Read, Write}
 use Rattle.lx_machine.specs.Memory.{is_allowed}
-use Rattle.lx_machine.specs.State.{LinuxState}
+use Rattle.lx_machine.specs.declared.state.LinuxState.{LinuxState}
 use Rattle.lx_machine.specs.Threads.{with_thread, with_call, in_call_of}
 use Rattle.lx_machine.specs.Instructions.{instruction, stored}
 use Rattle.lx_machine.specs.Signals.{has_signal, may_take, has_unblocked, without_signal, is_of}
