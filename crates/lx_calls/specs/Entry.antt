@@ -12,7 +12,6 @@ use Rattle.lx_machine.specs.Pieces.{piece, clipped}
 use Rattle.lx_machine.specs.Calls.{argument, low_argument, refused}
 use Rattle.lx_machine.specs.declared.calls.LxCall.{LxCall}
 use Rattle.lx_machine.specs.declared.calls.Piece.{Piece}
-use Rattle.lx_machine.specs.declared.threads.LxThread.{LxThread}
 use Rattle.lx_calls.specs.Vectors.{most_vectors}
 
 -- the first test that holds refuses the call
@@ -115,5 +114,6 @@ abbrev pub entered_as : LxCall → Option Call → LxCall
 entered_as c (Some k) = entered_unless c k (first_refusal (refusals c k))
 entered_as c None = refused c errno.ENOSYS
 
-abbrev pub entered : LxThread → LxCall → LxCall
-entered t c = entered_as c (call_of c.number)
+-- a call as SVC enters it
+abbrev pub entered : LxCall → LxCall
+entered c = entered_as c (call_of c.number)

@@ -39,7 +39,7 @@ use Rattle.lx_machine.specs.declared.threads.GuestEnd.TheVariants.{Exited, Kille
 -- result does next; a call after it has fetched the bytes of a piece; and the steps Hold, Drop, Effect, Move and Leave.
 -- None is no step
 pub record Effects : Type 0 where
-  pub enter : LxThread → LxCall → LxCall
+  pub enter : LxCall → LxCall
   pub stage : LxCall → Stage
   pub fetched : LxCall → LxCall
   pub hold : LinuxState → ℕ → LxThread → LxCall → Option LinuxState

@@ -1,0 +1,2 @@
+//! The Linux machine that runs.
+#![tactic(auto)]
