@@ -1,8 +1,13 @@
 -- The first byte that lacks a right, as a relation, is the first one that is found.
 use Rattle.std.proofs.Common.{◌≡◌, ℕ, zero, suc, ◌+◌, ◌%◌, ◌^◌, ◌<◌, ◌≤◌, Bool, true, false, Option, Some, None, subst, arith, refl, sym, ◌∙◌, inl, inr}
 use Rattle.std.proofs.lemmas.Bool.{cases_lt}
+use Rattle.std.specs.Prelude.{IsSome, IsSomeAnd, IsTrue, option_map}
+use Rattle.std.specs.FinMap as map
 use Rattle.places.specs.Allowed.{Allowed}
-use Rattle.page_store.specs.Pages.{Pages}
+use Rattle.places.specs.Places.{page}
+use Rattle.vm_areas.specs.declared.runs.Rights.{Rights}
+use Rattle.lx_memory.specs.Bytes.{IsMapped}
+use Rattle.page_store.specs.Pages.{Page, Pages}
 use Rattle.lx_memory.specs.Access.{lacks, allows, rights_of, IsFirstWithout, IsFirstLacking}
 use Rattle.lx_memory.specs.declared.right.Right.{Right}
 use Rattle.lx_machine.specs.Memory.{first_lacking}
@@ -47,3 +52,14 @@ allowed_lacks right pages at len is address from below =
 pub lacking_is : (right : Right) (pages : Pages) (at len : ℕ) (r : Option ℕ) → IsFirstLacking pages (allows right) at len r → r ≡ first_lacking right pages at len
 lacking_is right pages at len None is = sym (none_lacking right pages at len (allowed_lacks right pages at len is))
 lacking_is right pages at len (Some address) (first, is, place) = rw place (sym (some_lacking right pages at len first is))
+
+-- a page that has rights is mapped
+is_some_of : (page : Option Page) (P : Rights → Type 0) → IsSomeAnd (option_map (λ p. p.rights) page) P → IsSome page
+is_some_of (Some page) P is = refl
+is_some_of None P is = grind arith
+
+-- where nothing lacks the right, all is mapped
+pub mapped_where_allowed : (right : Right) (pages : Pages) (at len : ℕ) (r : Option ℕ) → IsFirstLacking pages (allows right) at len r → r ≡ None → IsMapped pages at len
+mapped_where_allowed right pages at len None is none address from below =
+    is_some_of (map.get pages (page address)) (λ rights. IsTrue (allows right rights)) (is.mapped address from below)
+mapped_where_allowed right pages at len (Some lacking) is none address from below = absurd cc

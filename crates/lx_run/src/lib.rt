@@ -1,2 +1,4 @@
-//! The Linux machine that runs.
+//! The Linux machine that runs: `LxState::start` is its first state, and `LxState::step` one step of it.
 #![tactic(auto)]
+
+pub mod access;
