@@ -1,11 +1,12 @@
 //! Calls on descriptors (eventfd(2), dup(2), fcntl(2), ioctl(2), close(2), pipe(2), lseek(2)).
-ghost use Rattle.std.specs.Prelude.{◌≡◌, ◌==◌, ◌%◌, ◌≤◌, ◌<◌, ◌+◌, ◌^◌, ◌++◌, length, IfOk, IfSome, OnErr, OnOk, [], ◌∷◌};
+ghost use Rattle.std.specs.Prelude.{◌≡◌, ◌==◌, ◌%◌, ◌≤◌, ◌<◌, ◌+◌, ◌^◌, ◌++◌, length, IfOk, IfErr, IfSome, OnErr, OnOk, [], ◌∷◌};
 ghost use Rattle.places.specs.Places.{bytes_of};
 ghost use Rattle.lx_machine.specs.Pieces.{piece};
+ghost use Rattle.lx_machine.specs.declared.calls.LxCall.{LxCall};
 ghost use Rattle.lx_machine.specs.Lists.{at_place};
 ghost use Rattle.lx_machine.specs.Calls.{argument, low_argument};
 ghost use Rattle.lx_calls.specs.Files.{descriptor, with_descriptor, with_file};
-ghost use Rattle.lx_calls.specs.Descriptors.{outcome, answers, has_cloexec, has_nonblock, has_semaphore, lowest_from, counter_at, eventfd_at, eventfd2, duplicate_at, duplicate, dup, dup3_to, dup3_of, dup3, access_mode, status_of, get_status, set_status, fcntl, refused_where_open, ioctl, lseek, close, pipe_at, pipe2};
+ghost use Rattle.lx_calls.specs.Descriptors.{outcome, answers, refuses, has_cloexec, has_nonblock, has_semaphore, lowest_from, counter_at, eventfd_at, eventfd2, duplicate_at, duplicate, dup, dup3_to, dup3_of, dup3, access_mode, status_of, get_status, set_status, fcntl, refused_where_open, ioctl, lseek, close, second_free, pipe_at, pipe_from, pipe2};
 
 use crate::files::{
     add_file, close_descriptor, first_free, next_free, place_at, set_descriptor, set_place,
@@ -283,9 +284,10 @@ pub fn close(files: &mut Files, call: &mut LxCall)
     }
 }
 
-/// The numbers of the two ends of a pipe.
+/// The numbers of a pipe, and of the open files and descriptors of its two ends.
 #[derive(Clone, Copy)]
-struct Ends {
+struct PipeNumbers {
+    pipe: u32,
     read_file: u32,
     write_file: u32,
     read_fd: u32,
@@ -342,21 +344,63 @@ fn add_end(files: &mut Files, kind: FileKind, file: u32, fd: u32, flags: u64)
 }
 
 /// A pipe at these numbers.
-fn pipe_at(alloc: Global, files: &mut Files, call: &mut LxCall, pipe: u32, ends: Ends) -> Result<(), NoMemory>
-    ensures ok { OnOk result (outcome files.new call.new ≡ pipe_at files.old call.old pipe ends.read_file ends.write_file ends.read_fd ends.write_fd) }
+fn pipe_at(alloc: Global, files: &mut Files, call: &mut LxCall, at: PipeNumbers) -> Result<(), NoMemory>
+    ensures ok { OnOk result (outcome files.new call.new ≡ pipe_at files.old call.old at.pipe at.read_file at.write_file at.read_fd at.write_fd) }
     ensures err { OnErr result ((files.new ≡ files.old) × (call.new ≡ call.old)) }
 {
-    let parts = pipe_parts(alloc, call.arguments[0], ends.read_fd, ends.write_fd)?;
+    let parts = pipe_parts(alloc, call.arguments[0], at.read_fd, at.write_fd)?;
     let flags = flags(call, 1);
-    set_place(&mut files.pipes, pipe, Some(parts.room));
-    add_end(files, FileKind::PipeRead(pipe), ends.read_file, ends.read_fd, flags);
-    add_end(files, FileKind::PipeWrite(pipe), ends.write_file, ends.write_fd, flags);
+    set_place(&mut files.pipes, at.pipe, Some(parts.room));
+    let nonblocking = has_nonblock(flags);
+    add_file(files, at.read_file, FileKind::PipeRead(at.pipe), nonblocking);
+    add_file(files, at.write_file, FileKind::PipeWrite(at.pipe), nonblocking);
+    let close_on_exec = has_cloexec(flags);
+    let read_end = Descriptor { file: at.read_file, close_on_exec };
+    set_descriptor(files, at.read_fd, read_end);
+    let write_end = Descriptor { file: at.write_file, close_on_exec };
+    set_descriptor(files, at.write_fd, write_end);
     call.answer_with(0, parts.pieces, parts.bytes);
     Ok(())
 }
 
-/// The least numbers for the two ends of a pipe, or the error where too few are free.
-fn free_ends(files: &Files) -> Result<Ends, LinuxErrno>
+/// The lowest free place behind this one.
+fn second_free<T>(places: &[Option<T>], first: u32) -> Option<u32>
+    requires first { first < length places.now }
+    requires length { length places.now < 2 ^ 31 }
+    ensures { result ≡ second_free places.now first }
+{
+    next_free(places, first + 1)
+}
+
+/// The least free numbers for a pipe, where those of its read end are found, or the error where too few are free.
+fn numbers_behind(files: &Files, read_fd: u32, read_file: u32) -> Result<PipeNumbers, LinuxErrno>
+    requires fd { read_fd < 256 }
+    requires file { read_file < 288 }
+    ensures ok { IfOk result (λ at. (c : LxCall) → pipe_from files.now c (Some read_fd) (Some read_file) ≡ pipe_at files.now c at.pipe at.read_file at.write_file at.read_fd at.write_fd) }
+    ensures err { IfErr result (λ e. (c : LxCall) → pipe_from files.now c (Some read_fd) (Some read_file) ≡ refuses files.now c e) }
+{
+    let Some(write_fd) = second_free(&files.descriptors, read_fd) else {
+        return Err(LinuxErrno::EMFILE);
+    };
+    let Some(pipe) = first_free(&files.pipes) else {
+        return Err(LinuxErrno::ENFILE);
+    };
+    let Some(write_file) = second_free(&files.files, read_file) else {
+        return Err(LinuxErrno::ENFILE);
+    };
+    Ok(PipeNumbers {
+        pipe,
+        read_file,
+        write_file,
+        read_fd,
+        write_fd,
+    })
+}
+
+/// The least free numbers for a pipe, or the error where too few are free.
+fn free_numbers(files: &Files) -> Result<PipeNumbers, LinuxErrno>
+    ensures ok { IfOk result (λ at. (c : LxCall) → pipe2 files.now c ≡ pipe_at files.now c at.pipe at.read_file at.write_file at.read_fd at.write_fd) }
+    ensures err { IfErr result (λ e. (c : LxCall) → pipe2 files.now c ≡ refuses files.now c e) }
 {
     let Some(read_fd) = first_free(&files.descriptors) else {
         return Err(LinuxErrno::EMFILE);
@@ -364,11 +408,20 @@ fn free_ends(files: &Files) -> Result<Ends, LinuxErrno>
     let Some(read_file) = first_free(&files.files) else {
         return Err(LinuxErrno::ENFILE);
     };
-    let Some(write_fd) = next_free(&files.descriptors, read_fd + 1) else {
-        return Err(LinuxErrno::EMFILE);
-    };
-    let Some(write_file) = next_free(&files.files, read_file + 1) else {
-        return Err(LinuxErrno::ENFILE);
-    };
-    Ok(Ends { read_file, write_file, read_fd, write_fd })
+    numbers_behind(files, read_fd, read_file)
+}
+
+/// Makes a pipe with an open file and a descriptor for each of its ends (pipe(2)). Where memory is wanting, nothing
+/// changes.
+pub fn pipe2(alloc: Global, files: &mut Files, call: &mut LxCall) -> Result<(), NoMemory>
+    ensures ok { OnOk result (outcome files.new call.new ≡ pipe2 files.old call.old) }
+    ensures err { OnErr result ((files.new ≡ files.old) × (call.new ≡ call.old)) }
+{
+    match free_numbers(files) {
+        Ok(at) => pipe_at(alloc, files, call, at),
+        Err(e) => {
+            call.refuse(e);
+            Ok(())
+        }
+    }
 }
