@@ -2,4 +2,7 @@
 #![tactic(auto)]
 
 pub mod descriptors;
+pub mod entry;
 pub mod files;
+pub mod shape;
+pub mod vectors;
