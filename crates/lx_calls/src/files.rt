@@ -1,14 +1,15 @@
 //! Open files, and what ends with them.
-ghost use Rattle.std.specs.Prelude.{◌≡◌, ◌<◌, ◌+◌, ◌^◌, length, slice_set, IfSome};
+ghost use Rattle.std.specs.Prelude.{◌≡◌, ◌<◌, ◌+◌, ◌^◌, ◌≤◌, drop, length, slice_set, IfSome, OnErr, OnOk};
 ghost use Rattle.std.specs.List.{list_any};
 ghost use Rattle.lx_machine.specs.Lists.{at_place, without_place, first_free, first_free_from};
 ghost use Rattle.lx_calls.specs.Files.{names, is_unnamed, is_read_end, is_write_end, is_open_as, has_reader, has_writer, without_pipe, after_end_of, without_file, ended_if_unnamed, settled, held_once_more, held_once_less, with_hold, given_back, with_descriptor, closed, with_file};
 
+use lx_machine::buffer::NoMemory;
 use lx_machine::files::{Descriptor, FileKind, Files, OpenFile};
 
 /// The lowest free place, where these are the places from `from` on.
-pub fn first_free_from<T>(from: usize, places: &[Option<T>]) -> Option<usize>
-    requires { from + length places.now < 2 ^ 64 }
+pub fn first_free_from<T>(from: u32, places: &[Option<T>]) -> Option<u32>
+    requires { from + length places.now < 2 ^ 32 }
     ensures place { result ≡ first_free_from from places.now }
     ensures fits { IfSome result (λ i. i < from + length places.now) }
 {
@@ -20,12 +21,23 @@ pub fn first_free_from<T>(from: usize, places: &[Option<T>]) -> Option<usize>
 }
 
 /// The lowest free place.
-pub fn first_free<T>(places: &[Option<T>]) -> Option<usize>
-    requires { length places.now < 2 ^ 63 }
+pub fn first_free<T>(places: &[Option<T>]) -> Option<u32>
+    requires { length places.now < 2 ^ 32 }
     ensures place { result ≡ first_free places.now }
     ensures fits { IfSome result (λ i. i < length places.now) }
 {
     first_free_from(0, places)
+}
+
+/// The lowest free place from `from` on.
+#[tactic(auto, using(std::proofs::lemmas::List::take_rest))]
+pub fn next_free<T>(places: &[Option<T>], from: u32) -> Option<u32>
+    requires from { from ≤ length places.now }
+    requires length { length places.now < 2 ^ 31 }
+    ensures place { result ≡ first_free_from from (drop from places.now) }
+    ensures fits { IfSome result (λ i. i < length places.now) }
+{
+    first_free_from(from, &places[from as usize..])
 }
 
 /// What stands at a place, if there is such a place and it isn't free.
@@ -155,17 +167,22 @@ fn settle(files: &mut Files, file: u32)
     }
 }
 
-/// A call holds the open file, which stands so. There are far fewer calls than holds that can be counted.
-pub fn hold(files: &mut Files, file: u32, f: OpenFile)
-    requires { f.holds + 1 < 2 ^ 32 }
-    ensures { files.new ≡ with_hold files.old file f }
+/// A call holds the open file, which stands so. `NoMemory`: one more hold can't be counted; then nothing changes.
+pub fn hold(files: &mut Files, file: u32, f: OpenFile) -> Result<(), NoMemory>
+    ensures ok { OnOk result (files.new ≡ with_hold files.old file f) }
+    ensures err { OnErr result (files.new ≡ files.old) }
+    ensures full { OnErr result (f.holds ≡ u32.MAX) }
 {
+    if f.holds == u32::MAX {
+        return Err(NoMemory);
+    }
     let held = OpenFile {
         kind: f.kind,
         nonblocking: f.nonblocking,
         holds: f.holds + 1,
     };
     set_place(&mut files.files, file, Some(held));
+    Ok(())
 }
 
 /// A call gives the open file back.

@@ -1,4 +1,8 @@
 //! What the calls of the Linux machine do: the plain functions that compute the effects of `specs/`.
 #![tactic(auto)]
 
+pub mod descriptors;
+pub mod entry;
 pub mod files;
+pub mod shape;
+pub mod vectors;

@@ -57,6 +57,24 @@ impl Bytes {
     {
         self.items.extend_from_slice(more).map_err(|_| NoMemory)
     }
+
+    /// Lets all bytes go.
+    pub fn clear(&mut self)
+        ensures { self.new ≡ [] }
+    {
+        self.items.clear();
+    }
+
+    /// Lets the first bytes go, or all where there are fewer.
+    pub fn drop_first(&mut self, count: usize)
+        ensures { self.new ≡ drop count self.old }
+    {
+        if count < self.items.len() {
+            self.items.drain(..count);
+        } else {
+            self.items.clear();
+        }
+    }
 }
 
 /// What a pipe or a console holds, at most `ROOM` bytes, which contracts see as a list, the first that was put first.

@@ -1,9 +1,10 @@
 //! Calls that have been entered.
-ghost use Rattle.std.specs.Prelude.{◌≡◌, [], ◌++◌, ◌∷◌, OnOk, OnErr};
+ghost use Rattle.std.specs.Prelude.{◌≡◌, ◌<◌, [], ◌++◌, ◌∷◌, OnOk, OnErr};
 ghost use Rattle.lx_machine.specs.Pieces.{without_first};
 
 use crate::buffer::{Bytes, NoMemory};
 use crate::signals::Kept;
+use linux_abi::{LinuxErrno, answer};
 use std::alloc::Global;
 use std::marker::Model;
 
@@ -88,6 +89,62 @@ pub struct LxCall {
     pub waits: bool,
     pub result: Option<u64>,
     pub kept: Option<Kept>,
+}
+
+impl LxCall {
+    ghost use Rattle.lx_machine.specs.Calls.{new_call, low_argument, answered, answered_with, refused};
+
+    /// A call as SVC finds it: the number of x8 and these arguments (syscall(2)). Takes no memory.
+    pub fn new(alloc: Global, number: u64, arguments: [u64; 6]) -> LxCall
+        ensures { result ≡ new_call number arguments }
+    {
+        LxCall {
+            number,
+            arguments,
+            fetched: 0,
+            pieces: Pieces::none(alloc),
+            bytes: Bytes::empty(alloc),
+            moved: 0,
+            held: None,
+            deadline: None,
+            waits: false,
+            result: None,
+            kept: None,
+        }
+    }
+
+    /// The low 32 bits of an argument.
+    pub fn low_argument(&self, at: usize) -> u32
+        requires { at < 6 }
+        ensures { result ≡ low_argument self.now at }
+    {
+        (self.arguments[at] % (1 << 32)) as u32
+    }
+
+    /// The call has this result, and nothing to store.
+    pub fn answer(&mut self, n: u64)
+        ensures { self.new ≡ answered self.old n }
+    {
+        self.result = Some(n);
+        self.pieces.clear();
+        self.bytes.clear();
+    }
+
+    /// The call has this result, and these bytes to store.
+    pub fn answer_with(&mut self, n: u64, pieces: Pieces, bytes: Bytes)
+        ensures { self.new ≡ answered_with self.old n pieces bytes }
+    {
+        self.result = Some(n);
+        self.pieces = pieces;
+        self.bytes = bytes;
+    }
+
+    /// The call is refused (errno(3)).
+    pub fn refuse(&mut self, e: LinuxErrno)
+        ensures { self.new ≡ refused self.old e }
+    {
+        self.answer(answer(e));
+    }
 }
 
 /// What a call does next.
