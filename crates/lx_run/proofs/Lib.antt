@@ -1,3 +1,4 @@
+pub mod Answering
 pub mod Exchanged
 pub mod Filled
 pub mod Small

@@ -2,3 +2,4 @@
 #![tactic(auto)]
 
 pub mod access;
+pub mod instruction;
