@@ -9,4 +9,5 @@ pub mod calls;
 pub mod files;
 pub mod label;
 pub mod signals;
+pub mod step;
 pub mod threads;
