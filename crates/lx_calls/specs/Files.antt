@@ -42,6 +42,11 @@ has_reader F pipe = list_any (is_open_as (is_read_end pipe)) F.files
 abbrev pub has_writer : Files → ℕ → Bool
 has_writer F pipe = list_any (is_open_as (is_write_end pipe)) F.files
 
+-- what a pipe holds, and nothing where there is none
+abbrev pub held_in : Option (List ℕ) → List ℕ
+held_in None = []
+held_in (Some bytes) = bytes
+
 -- ---- the end of an open file
 
 -- the pipe is gone where neither of its ends lives

@@ -1,11 +1,11 @@
 -- read, write, readv and writev: Hold, Drop and Move. Source: read(2), write(2), readv(2), pipe(7), eventfd(2).
-use Rattle.std.specs.Prelude.{ℕ, suc, ◌+◌, ◌-◌, ◌*◌, ◌%◌, ◌^◌, ◌==◌, Bool, true, false, ◌&&◌, ◌||◌, nat_lt, nat_le, min, if◌then◌else◌, List, [], ◌∷◌, ◌++◌, length, take, drop, Option, Some, None, is_some, ℤ, pos}
+use Rattle.std.specs.Prelude.{◌≡◌, ℕ, ◌+◌, ◌-◌, ◌^◌, ◌==◌, Bool, true, false, ◌&&◌, ◌||◌, nat_lt, nat_le, min, if◌then◌else◌, List, [], ◌∷◌, ◌++◌, length, take, drop, Option, Some, None, Result, Ok, Err, ℤ, pos}
 use Rattle.std.proofs.Math.Bool.{not}
 use Rattle.std.specs.List.{list_any}
-use Rattle.places.specs.Places.{bytes_of, number_of}
+use Rattle.std.specs.Option.{option_map}
+use Rattle.places.specs.Places.{bytes_of, number_at}
 use Rattle.linux_abi.specs.Call.{call_of}
 use Rattle.linux_abi.specs.LinuxErrno.{answer_of}
-use Rattle.linux_abi.specs.LinuxSig.{is_dropped_by_default}
 use Rattle.linux_abi.specs.declared.calls.Call.{Call}
 use Rattle.linux_abi.specs.declared.calls.Call.TheVariants as call
 use Rattle.linux_abi.specs.declared.errno.LinuxErrno.{LinuxErrno}
@@ -13,12 +13,12 @@ use Rattle.linux_abi.specs.declared.errno.LinuxErrno.TheVariants as errno
 use Rattle.linux_abi.specs.declared.signals.LinuxSig.TheVariants as signal
 use Rattle.lx_machine.specs.Lists.{bind, at_place, with_place}
 use Rattle.lx_machine.specs.Pieces.{total}
-use Rattle.lx_machine.specs.Calls.{argument, low_argument, answered, answered_with, refused}
+use Rattle.lx_machine.specs.Calls.{low_argument, answered, answered_with, refused}
 use Rattle.lx_machine.specs.Signals.{is_of}
 use Rattle.lx_machine.specs.Step.{action_of}
 use Rattle.lx_machine.specs.declared.state.LinuxState.{LinuxState}
 use Rattle.lx_machine.specs.declared.files.Files.{Files}
-use Rattle.lx_machine.specs.Threads.{with_thread, with_call, in_call_of}
+use Rattle.lx_machine.specs.Threads.{in_call_of}
 use Rattle.lx_machine.specs.declared.calls.LxCall.{LxCall}
 use Rattle.lx_machine.specs.declared.calls.Piece.{Piece}
 use Rattle.lx_machine.specs.declared.files.Counter.{Counter}
@@ -31,12 +31,23 @@ use Rattle.lx_machine.specs.declared.label.LxSide.TheVariants as side
 use Rattle.lx_machine.specs.declared.label.Pick.{Pick}
 use Rattle.lx_machine.specs.declared.signals.SigInfo.{SigInfo}
 use Rattle.lx_machine.specs.declared.signals.Origin.TheVariants.{Sender}
+use Rattle.lx_machine.specs.declared.step.NoStep.{NoStep}
+use Rattle.lx_machine.specs.declared.step.NoStep.TheVariants.{NotEnabled, NoMemory}
 use Rattle.lx_machine.specs.declared.threads.LxThread.{LxThread}
 use Rattle.lx_calls.specs.Files.{has_reader, has_writer, with_hold, given_back}
 
--- the state with these files
-abbrev pub with_files : LinuxState → Files → LinuxState
-with_files L F = record L { files = F }
+-- what a step of a transfer leaves of the files, how the call stands then, and whether its thread gets SIGPIPE
+pub record Outcome : Type 0 where
+  pub files : Files
+  pub call : LxCall
+  pub is_broken : Bool
+
+abbrev pub outcome : Files → LxCall → Outcome
+outcome F c = record { files = F; call = c; is_broken = false }
+
+-- the call is refused
+abbrev pub refuses : Files → LxCall → LinuxErrno → Outcome
+refuses F c e = outcome F (refused c e)
 
 -- the call reads
 abbrev pub is_read_call : Option Call → Bool
@@ -61,21 +72,21 @@ direction_refusal false (kind.Console which) = None
 direction_refusal false (kind.PipeWrite p) = None
 direction_refusal false _ = Some errno.EBADF
 
-abbrev pub hold_unless : LinuxState → ℕ → LxThread → LxCall → ℕ → OpenFile → Option LinuxErrno → LinuxState
-hold_unless L s t c file f (Some e) = in_call_of L s t (refused c e)
-hold_unless L s t c file f None = in_call_of (with_files L (with_hold L.files file f)) s t (record c { held = Some file })
+abbrev pub hold_unless : Files → LxCall → ℕ → OpenFile → Option LinuxErrno → Outcome
+hold_unless F c file f (Some e) = refuses F c e
+hold_unless F c file f None = outcome (with_hold F file f) (record c { held = Some file })
 
-abbrev pub hold_file : LinuxState → ℕ → LxThread → LxCall → ℕ → Option OpenFile → LinuxState
-hold_file L s t c file (Some f) = hold_unless L s t c file f (direction_refusal (is_read c) f.kind)
-hold_file L s t c file None = in_call_of L s t (refused c errno.EBADF)
+abbrev pub hold_file : Files → LxCall → ℕ → Option OpenFile → Outcome
+hold_file F c file (Some f) = hold_unless F c file f (direction_refusal (is_read c) f.kind)
+hold_file F c file None = refuses F c errno.EBADF
 
-abbrev pub hold_descriptor : LinuxState → ℕ → LxThread → LxCall → Option Descriptor → LinuxState
-hold_descriptor L s t c (Some d) = hold_file L s t c d.file (at_place L.files.files d.file)
-hold_descriptor L s t c None = in_call_of L s t (refused c errno.EBADF)
+abbrev pub hold_descriptor : Files → LxCall → Option Descriptor → Outcome
+hold_descriptor F c (Some d) = hold_file F c d.file (at_place F.files d.file)
+hold_descriptor F c None = refuses F c errno.EBADF
 
 -- the open file of the first argument is held, or the call is refused
-abbrev pub hold : LinuxState → ℕ → LxThread → LxCall → Option LinuxState
-hold L s t c = Some (hold_descriptor L s t c (at_place L.files.descriptors (low_argument c 0)))
+abbrev pub held : Files → LxCall → Outcome
+held F c = hold_descriptor F c (at_place F.descriptors (low_argument c 0))
 
 -- ---- Drop, and the end of a move: the hold is given back
 
@@ -83,41 +94,43 @@ abbrev pub without_hold : LxCall → LxCall
 without_hold c = record c { held = None }
 
 -- the call stands so, and has given its open file back
-abbrev pub let_go_of : LinuxState → ℕ → LxThread → LxCall → ℕ → LinuxState
-let_go_of L s t c file = in_call_of (with_files L (given_back L.files file)) s t (without_hold c)
+abbrev pub lets_go : Files → LxCall → ℕ → Outcome
+lets_go F c file = outcome (given_back F file) (without_hold c)
 
-abbrev pub let_go : LinuxState → ℕ → LxThread → LxCall → Option LinuxState
-let_go L s t c = bind c.held (λ file. Some (let_go_of L s t c file))
+abbrev pub dropped : Files → LxCall → Option Outcome
+dropped F c = bind c.held (λ file. Some (lets_go F c file))
 
 -- ---- Move
 
 -- a move that ends with this number, or with this error
-abbrev pub ends_with : LinuxState → ℕ → LxThread → LxCall → ℕ → ℕ → Option LinuxState
-ends_with L s t c file n = Some (let_go_of L s t (answered c n) file)
+abbrev pub ends_with : Files → LxCall → ℕ → ℕ → Option Outcome
+ends_with F c file n = Some (lets_go F (answered c n) file)
 
-abbrev pub ends_refused : LinuxState → ℕ → LxThread → LxCall → ℕ → LinuxErrno → Option LinuxState
-ends_refused L s t c file e = ends_with L s t c file (answer_of e)
+abbrev pub ends_refused : Files → LxCall → ℕ → LinuxErrno → Option Outcome
+ends_refused F c file e = ends_with F c file (answer_of e)
 
 -- a move that has to wait: it has no step, unless the open file is nonblocking
-abbrev pub waits : LinuxState → ℕ → LxThread → LxCall → ℕ → OpenFile → Option LinuxState
-waits L s t c file f = if f.nonblocking then ends_refused L s t c file errno.EAGAIN else None
+abbrev pub waits : Files → LxCall → ℕ → OpenFile → Option Outcome
+waits F c file f = if f.nonblocking then ends_refused F c file errno.EAGAIN else None
+
+-- ---- reads
 
 -- a read that ends with these bytes, which are then stored
-abbrev pub reads_bytes : LinuxState → ℕ → LxThread → LxCall → ℕ → List ℕ → Option LinuxState
-reads_bytes L s t c file bytes = Some (let_go_of L s t (answered_with c (length bytes) c.pieces bytes) file)
+abbrev pub reads_bytes : Files → LxCall → ℕ → List ℕ → Option Outcome
+reads_bytes F c file bytes = Some (lets_go F (answered_with c (length bytes) c.pieces bytes) file)
 
 -- a read from a pipe that holds these bytes: none held is the end where no writer is left
-abbrev pub read_pipe : LinuxState → ℕ → LxThread → LxCall → ℕ → OpenFile → ℕ → List ℕ → Option LinuxState
-read_pipe L s t c file f p [] = if has_writer L.files p then waits L s t c file f else ends_with L s t c file 0
-read_pipe L s t c file f p (b ∷ bs) =
+abbrev pub read_pipe : Files → LxCall → ℕ → OpenFile → ℕ → List ℕ → Option Outcome
+read_pipe F c file f p [] = if has_writer F p then waits F c file f else ends_with F c file 0
+read_pipe F c file f p (b ∷ bs) =
     let most = total c.pieces in
-    reads_bytes (with_files L (record L.files { pipes = with_place L.files.pipes p (drop most (b ∷ bs)) })) s t c file (take most (b ∷ bs))
+    reads_bytes (record F { pipes = with_place F.pipes p (drop most (b ∷ bs)) }) c file (take most (b ∷ bs))
 
 -- a read from the input
-abbrev pub read_input : LinuxState → ℕ → LxThread → LxCall → ℕ → Option LinuxState
-read_input L s t c file =
+abbrev pub read_input : Files → LxCall → ℕ → Option Outcome
+read_input F c file =
     let most = total c.pieces in
-    reads_bytes (with_files L (record L.files { input = drop most L.files.input })) s t c file (take most L.files.input)
+    reads_bytes (record F { input = drop most F.input }) c file (take most F.input)
 
 -- a read from a counter: its value, or 1 of it, in 8 bytes
 abbrev pub counted : Counter → ℕ
@@ -126,19 +139,23 @@ counted n = if n.semaphore then 1 else n.value
 abbrev pub counted_down : Counter → Counter
 counted_down n = record n { value = n.value - counted n }
 
-abbrev pub read_counter : LinuxState → ℕ → LxThread → LxCall → ℕ → OpenFile → ℕ → Counter → Option LinuxState
-read_counter L s t c file f number n =
-    if nat_lt (total c.pieces) 8 then ends_refused L s t c file errno.EINVAL else (
-    if n.value == 0 then waits L s t c file f
-    else reads_bytes (with_files L (record L.files { counters = with_place L.files.counters number (counted_down n) })) s t c file (bytes_of (counted n) 8))
+abbrev pub with_counter : Files → ℕ → Counter → Files
+with_counter F number n = record F { counters = with_place F.counters number n }
+
+abbrev pub read_counter : Files → LxCall → ℕ → OpenFile → ℕ → Counter → Option Outcome
+read_counter F c file f number n =
+    if nat_lt (total c.pieces) 8 then ends_refused F c file errno.EINVAL else (
+    if n.value == 0 then waits F c file f else reads_bytes (with_counter F number (counted_down n)) c file (bytes_of (counted n) 8))
 
 -- a read of no bytes answers 0, except on a counter
-abbrev pub read_move : LinuxState → ℕ → LxThread → LxCall → ℕ → OpenFile → FileKind → Option LinuxState
-read_move L s t c file f (kind.Counter n) = bind (at_place L.files.counters n) (read_counter L s t c file f n)
-read_move L s t c file f kind.Input = if total c.pieces == 0 then ends_with L s t c file 0 else read_input L s t c file
-read_move L s t c file f (kind.PipeRead p) =
-    if total c.pieces == 0 then ends_with L s t c file 0 else bind (at_place L.files.pipes p) (read_pipe L s t c file f p)
-read_move L s t c file f _ = None
+abbrev pub unless_empty : ℕ → Files → LxCall → ℕ → Option Outcome → Option Outcome
+unless_empty count F c file next = if count == 0 then ends_with F c file 0 else next
+
+abbrev pub read_move : Files → LxCall → ℕ → OpenFile → FileKind → Option Outcome
+read_move F c file f (kind.Counter n) = bind (at_place F.counters n) (read_counter F c file f n)
+read_move F c file f kind.Input = unless_empty (total c.pieces) F c file (read_input F c file)
+read_move F c file f (kind.PipeRead p) = unless_empty (total c.pieces) F c file (bind (at_place F.pipes p) (read_pipe F c file f p))
+read_move F c file f _ = None
 
 -- ---- writes
 
@@ -153,75 +170,101 @@ goes_in c holds =
     if nat_le (count c) 4096 then (if nat_le (length c.bytes) free then length c.bytes else 0) else min free (length c.bytes)
 
 -- a write whose first n bytes have gone in: it ends where all have, or where it doesn't block, and else goes on
-abbrev pub wrote : LinuxState → ℕ → LxThread → LxCall → ℕ → OpenFile → ℕ → Option LinuxState
-wrote L s t c file f n =
-    if f.nonblocking || nat_le (length c.bytes) n then ends_with L s t c file (c.moved + n)
-    else Some (in_call_of L s t (record c { moved = c.moved + n; bytes = drop n c.bytes }))
+abbrev pub wrote : Files → LxCall → ℕ → OpenFile → ℕ → Option Outcome
+wrote F c file f n =
+    if f.nonblocking || nat_le (length c.bytes) n then ends_with F c file (c.moved + n)
+    else Some (outcome F (record c { moved = c.moved + n; bytes = drop n c.bytes }))
 
 -- a write that can move nothing waits, unless it is nonblocking: then it answers what it has moved before
-abbrev pub write_waits : LinuxState → ℕ → LxThread → LxCall → ℕ → OpenFile → Option LinuxState
-write_waits L s t c file f =
-    if f.nonblocking && nat_lt 0 c.moved then ends_with L s t c file c.moved else waits L s t c file f
+abbrev pub write_waits : Files → LxCall → ℕ → OpenFile → Option Outcome
+write_waits F c file f = if f.nonblocking && nat_lt 0 c.moved then ends_with F c file c.moved else waits F c file f
 
--- a pipe with these bytes behind those that it holds
-abbrev pub into_pipe : LinuxState → ℕ → List ℕ → List ℕ → LinuxState
-into_pipe L p holds bytes = with_files L (record L.files { pipes = with_place L.files.pipes p (holds ++ bytes) })
+-- a pipe with these bytes
+abbrev pub with_pipe : Files → ℕ → List ℕ → Files
+with_pipe F p bytes = record F { pipes = with_place F.pipes p bytes }
 
--- SIGPIPE as the thread's own signal: it isn't kept where it is ignored, or pending already
+-- a write to a pipe without a reader: its thread gets SIGPIPE
+abbrev pub breaks : Files → LxCall → ℕ → Option Outcome
+breaks F c file = Some (record (lets_go F (answered c (if nat_lt 0 c.moved then c.moved else answer_of errno.EPIPE)) file) { is_broken = true })
+
+abbrev pub write_pipe : Files → LxCall → ℕ → OpenFile → ℕ → List ℕ → Option Outcome
+write_pipe F c file f p holds =
+    let n = goes_in c (length holds) in
+    if not (has_reader F p) then breaks F c file else (
+    if n == 0 then write_waits F c file f else wrote (with_pipe F p (holds ++ take n c.bytes)) c file f n)
+
+-- a console room is a pipe whose reader stays; what has ever been put into it is kept too
+abbrev pub into_console : Files → LxSide → List ℕ → Files
+into_console F side.Out bytes = record F { out = F.out ++ bytes; put_out = F.put_out ++ bytes }
+into_console F side.Err bytes = record F { err = F.err ++ bytes; put_err = F.put_err ++ bytes }
+
+abbrev pub console_holds : Files → LxSide → List ℕ
+console_holds F side.Out = F.out
+console_holds F side.Err = F.err
+
+abbrev pub write_console : Files → LxCall → ℕ → OpenFile → LxSide → Option Outcome
+write_console F c file f which =
+    let n = goes_in c (length (console_holds F which)) in
+    if n == 0 then write_waits F c file f else wrote (into_console F which (take n c.bytes)) c file f n
+
+-- a write to a counter adds the number in its first 8 bytes: 2^64 - 1 is no number to add, and the sum stays below it
+abbrev pub write_counter : Files → LxCall → ℕ → OpenFile → ℕ → Counter → Option Outcome
+write_counter F c file f number n =
+    let added = number_at c.bytes 0 8 in
+    if nat_lt (length c.bytes) 8 || (added == 2 ^ 64 - 1) then ends_refused F c file errno.EINVAL else (
+    if nat_lt (2 ^ 64 - 2) (n.value + added) then waits F c file f
+    else ends_with (with_counter F number (record n { value = n.value + added })) c file 8)
+
+-- a write of no bytes answers 0, except on a counter
+abbrev pub write_move : Files → LxCall → ℕ → OpenFile → FileKind → Option Outcome
+write_move F c file f (kind.Counter n) = bind (at_place F.counters n) (write_counter F c file f n)
+write_move F c file f (kind.Console which) = unless_empty (count c) F c file (write_console F c file f which)
+write_move F c file f (kind.PipeWrite p) = unless_empty (count c) F c file (bind (at_place F.pipes p) (write_pipe F c file f p))
+write_move F c file f _ = None
+
+-- the bytes between a transfer and its open file
+abbrev pub move_file : Files → LxCall → ℕ → OpenFile → Option Outcome
+move_file F c file f = if is_read c then read_move F c file f f.kind else write_move F c file f f.kind
+
+abbrev pub moved : Files → LxCall → Option Outcome
+moved F c = bind c.held (λ file. bind (at_place F.files file) (move_file F c file))
+
+-- a function that computes a step of a transfer, and tells whether its thread gets SIGPIPE: it leaves what the step leaves.
+-- Where there is no such step, or memory is wanting, nothing changes
+abbrev pub Makes : Option Outcome → Files → LxCall → Files → LxCall → Result Bool NoStep → Type 0
+Makes step F c new_files new_call (Ok broken) = step ≡ Some (record { files = new_files; call = new_call; is_broken = broken })
+Makes step F c new_files new_call (Err NotEnabled) = (step ≡ None) × (new_files ≡ F) × (new_call ≡ c)
+Makes step F c new_files new_call (Err NoMemory) = (new_files ≡ F) × (new_call ≡ c)
+
+-- ---- SIGPIPE
+
+-- SIGPIPE as the thread's own signal
 abbrev pub broken_pipe : SigInfo
 broken_pipe = record { signal = signal.SIGPIPE; code = pos 0; origin = Sender 1000 1000 }
 
-abbrev pub with_broken_pipe : LinuxState → LxThread → LxThread
-with_broken_pipe L t =
-    if ((action_of L signal.SIGPIPE).handler == 1) || list_any (is_of signal.SIGPIPE) t.pending then t
-    else record t { pending = t.pending ++ broken_pipe ∷ [] }
+-- pending signals with SIGPIPE: it isn't kept where it is ignored, or pending already
+abbrev pub with_broken_pipe : Bool → List SigInfo → List SigInfo
+with_broken_pipe ignored pending =
+    if ignored || list_any (is_of signal.SIGPIPE) pending then pending else pending ++ broken_pipe ∷ []
 
--- a write to a pipe without a reader
-abbrev pub breaks : LinuxState → ℕ → LxThread → LxCall → ℕ → Option LinuxState
-breaks L s t c file =
-    ends_with L s (with_broken_pipe L t) c file (if nat_lt 0 c.moved then c.moved else answer_of errno.EPIPE)
+-- ---- the steps of the thread t in slot s
 
-abbrev pub write_pipe : LinuxState → ℕ → LxThread → LxCall → ℕ → OpenFile → ℕ → List ℕ → Option LinuxState
-write_pipe L s t c file f p holds =
-    let n = goes_in c (length holds) in
-    if not (has_reader L.files p) then breaks L s t c file else (
-    if n == 0 then write_waits L s t c file f else wrote (into_pipe L p holds (take n c.bytes)) s t c file f n)
+-- the thread after a move: SIGPIPE is pending where a pipe broke
+abbrev pub after_move : LinuxState → LxThread → Bool → LxThread
+after_move L t is_broken =
+    if is_broken then record t { pending = with_broken_pipe ((action_of L signal.SIGPIPE).handler == 1) t.pending } else t
 
--- a console room is a pipe whose reader stays; what has ever been put into it is kept too
-abbrev pub into_console : LinuxState → LxSide → List ℕ → LinuxState
-into_console L side.Out bytes = with_files L (record L.files { out = L.files.out ++ bytes; put_out = L.files.put_out ++ bytes })
-into_console L side.Err bytes = with_files L (record L.files { err = L.files.err ++ bytes; put_err = L.files.put_err ++ bytes })
+-- the state after a step of a transfer
+abbrev pub on_transfer : LinuxState → ℕ → LxThread → Outcome → LinuxState
+on_transfer L s t o = in_call_of (record L { files = o.files }) s (after_move L t o.is_broken) o.call
 
-abbrev pub console_holds : LinuxState → LxSide → List ℕ
-console_holds L side.Out = L.files.out
-console_holds L side.Err = L.files.err
+abbrev pub hold : LinuxState → ℕ → LxThread → LxCall → Option LinuxState
+hold L s t c = Some (on_transfer L s t (held L.files c))
 
-abbrev pub write_console : LinuxState → ℕ → LxThread → LxCall → ℕ → OpenFile → LxSide → Option LinuxState
-write_console L s t c file f which =
-    let n = goes_in c (length (console_holds L which)) in
-    if n == 0 then write_waits L s t c file f else wrote (into_console L which (take n c.bytes)) s t c file f n
-
--- a write to a counter adds the number in its first 8 bytes: 2^64 - 1 is no number to add, and the sum stays below it
-abbrev pub write_counter : LinuxState → ℕ → LxThread → LxCall → ℕ → OpenFile → ℕ → Counter → Option LinuxState
-write_counter L s t c file f number n =
-    let added = number_of (take 8 c.bytes) in
-    if nat_lt (length c.bytes) 8 || (added == 2 ^ 64 - 1) then ends_refused L s t c file errno.EINVAL else (
-    if nat_lt (2 ^ 64 - 2) (n.value + added) then waits L s t c file f
-    else ends_with (with_files L (record L.files { counters = with_place L.files.counters number (record n { value = n.value + added }) })) s t c file 8)
-
--- a write of no bytes answers 0, except on a counter
-abbrev pub write_move : LinuxState → ℕ → LxThread → LxCall → ℕ → OpenFile → FileKind → Option LinuxState
-write_move L s t c file f (kind.Counter n) = bind (at_place L.files.counters n) (write_counter L s t c file f n)
-write_move L s t c file f (kind.Console which) = if count c == 0 then ends_with L s t c file 0 else write_console L s t c file f which
-write_move L s t c file f (kind.PipeWrite p) =
-    if count c == 0 then ends_with L s t c file 0 else bind (at_place L.files.pipes p) (write_pipe L s t c file f p)
-write_move L s t c file f _ = None
-
--- the bytes between a transfer and its open file
-abbrev pub move_file : LinuxState → ℕ → LxThread → LxCall → ℕ → OpenFile → Option LinuxState
-move_file L s t c file f = if is_read c then read_move L s t c file f f.kind else write_move L s t c file f f.kind
+abbrev pub let_go : LinuxState → ℕ → LxThread → LxCall → Option LinuxState
+let_go L s t c = option_map (on_transfer L s t) (dropped L.files c)
 
 -- Move of a transfer, which picks nothing
 abbrev pub move : LinuxState → ℕ → LxThread → LxCall → List Pick → Option LinuxState
 move L s t c (p ∷ ps) = None
-move L s t c [] = bind c.held (λ file. bind (at_place L.files.files file) (move_file L s t c file))
+move L s t c [] = option_map (on_transfer L s t) (moved L.files c)

@@ -167,8 +167,8 @@ fn settle(files: &mut Files, file: u32)
     }
 }
 
-/// A call holds the open file, which stands so. `NoMemory`: one more hold can't be counted; then nothing changes.
-pub fn hold(files: &mut Files, file: u32, f: OpenFile) -> Result<(), NoMemory>
+/// One more call holds the open file, which stands so. `NoMemory`: one more hold can't be counted; then nothing changes.
+pub fn hold_once(files: &mut Files, file: u32, f: OpenFile) -> Result<(), NoMemory>
     ensures ok { OnOk result (files.new ≡ with_hold files.old file f) }
     ensures err { OnErr result (files.new ≡ files.old) }
     ensures full { OnErr result (f.holds ≡ u32.MAX) }

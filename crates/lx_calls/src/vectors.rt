@@ -13,7 +13,7 @@ use std::alloc::Global;
 const VECTOR: usize = 16;
 
 /// The number in the eight bytes from a place on, little-endian.
-fn number(bytes: &[u8], at: usize) -> u64
+pub(crate) fn number(bytes: &[u8], at: usize) -> u64
     requires { at + 8 ≤ length bytes.now }
     ensures { result ≡ number_at bytes.now at 8 }
 {

@@ -1,6 +1,6 @@
 //! The Linux machine's parts: threads and their calls, files, signals, and the labels that name its steps.
 //!
-//! What the machine is stands in `specs/`: its state in `State.antt`, one step of it in `Step.antt`. It speaks in the terms
+//! What the machine is stands in `specs/`: one step of it in `Step.antt`; its state is `state::LinuxState`. It speaks in the terms
 //! of the manual pages and of Linux numbers alone.
 #![tactic(auto)]
 
@@ -11,4 +11,5 @@ pub mod label;
 pub mod memory;
 pub mod signals;
 pub mod state;
+pub mod step;
 pub mod threads;

@@ -1,6 +1,7 @@
 //! Signals, their information and their actions, in Linux numbers (signal(7), sigaction(2)).
-ghost use Rattle.std.specs.Prelude.{◌≡◌, ◌<◌, ◌++◌, ◌∷◌, [], length};
+ghost use Rattle.std.specs.Prelude.{◌≡◌, ◌<◌, ◌++◌, ◌∷◌, [], length, OnErr, OnOk};
 
+use crate::buffer::NoMemory;
 use crate::label::PendingList;
 use arrayvec::ArrayVec;
 use linux_abi::LinuxSig;
@@ -64,4 +65,29 @@ impl Model for Pending {
     ghost Value = { List SigInfo };
 
     ghost view = { λ p. p.infos.items };
+}
+
+impl Pending {
+    ghost use Rattle.std.specs.List.{list_any};
+    ghost use Rattle.lx_machine.specs.Signals.{is_of};
+
+    /// Whether the signal is pending.
+    pub fn has(&self, signal: LinuxSig) -> bool
+        ensures { result ≡ list_any (is_of signal) self.now }
+    {
+        self.infos.iter().any(|info| info.signal.number() == signal.number())
+    }
+
+    /// Puts a signal behind the others. `NoMemory`: `MOST_PENDING` of them are there; then nothing changes.
+    pub fn push(&mut self, info: SigInfo) -> Result<(), NoMemory>
+        ensures ok { OnOk result (self.new ≡ self.old ++ info ∷ []) }
+        ensures err { OnErr result (self.new ≡ self.old) }
+        ensures full { OnErr result (length self.old ≡ MOST_PENDING) }
+    {
+        if self.infos.is_full() {
+            return Err(NoMemory);
+        }
+        self.infos.push(info);
+        Ok(())
+    }
 }

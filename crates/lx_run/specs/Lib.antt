@@ -1,3 +1,4 @@
 pub mod Accesses
 pub mod Stack
 pub mod Start
+pub mod Steps

@@ -3,3 +3,5 @@
 
 pub mod access;
 pub mod instruction;
+pub mod refusal;
+pub mod threads;
