@@ -22,7 +22,8 @@ def skip_without(*tools):
 
 def linuxulator():
     """The built program. The shell script builds it where that is needed."""
-    subprocess.run([ROOT / "linuxulator", "--version"], stdout=subprocess.DEVNULL, check=True)
+    if subprocess.run([ROOT / "linuxulator", "--version"], stdout=subprocess.DEVNULL).returncode != 0:
+        sys.exit("linuxulator could not be built")
     return ROOT / "crates/linuxulator/out/linuxulator"
 
 
