@@ -84,20 +84,48 @@ fn all_ask(rt: &impl Abort, table: &[Asks]) {
 }
 
 #[test]
-fn data_instructions_give_what_qemu_gives(rt: HostRuntime) {
+fn sums_and_differences_give_what_qemu_gives(rt: HostRuntime) {
     all_step(&rt, &SUMS);
     all_step(&rt, &DIFFERENCES);
+}
+
+#[test]
+fn flags_and_selections_give_what_qemu_gives(rt: HostRuntime) {
     all_step(&rt, &LOGIC_FLAGS);
     all_step(&rt, &COMPARISONS);
     all_step(&rt, &SELECTED);
+}
+
+#[test]
+fn shifts_give_what_qemu_gives(rt: HostRuntime) {
     all_step(&rt, &SHIFTS);
+}
+
+#[test]
+fn extensions_and_quotients_give_what_qemu_gives(rt: HostRuntime) {
     all_step(&rt, &EXTENDS);
     all_step(&rt, &QUOTIENTS);
+}
+
+#[test]
+fn products_and_reversals_give_what_qemu_gives(rt: HostRuntime) {
     all_step(&rt, &PRODUCTS);
     all_step(&rt, &BITS);
+}
+
+#[test]
+fn immediates_give_what_qemu_gives(rt: HostRuntime) {
     all_step(&rt, &IMMEDIATES);
-    all_step(&rt, &BITFIELDS);
     all_step(&rt, &EXTRACTED);
+}
+
+#[test]
+fn bitfields_give_what_qemu_gives(rt: HostRuntime) {
+    all_step(&rt, &BITFIELDS);
+}
+
+#[test]
+fn register_31_is_what_it_is_in_qemu(rt: HostRuntime) {
     all_step(&rt, &STACK_POINTER_OR_ZERO);
 }
 
@@ -141,14 +169,30 @@ fn conditions_hold_under_their_flags_alone(rt: HostRuntime) {
 }
 
 #[test]
-fn loads_and_stores_ask_and_finish(rt: HostRuntime) {
+fn loads_ask_and_finish(rt: HostRuntime) {
     all_ask(&rt, &LOADS);
+}
+
+#[test]
+fn loads_of_other_forms_ask_and_finish(rt: HostRuntime) {
     all_ask(&rt, &LOADS_INDEXED);
     all_ask(&rt, &LOADS_OF_PAIRS);
     all_ask(&rt, &LOADS_ORDERED);
+}
+
+#[test]
+fn stores_ask_and_finish(rt: HostRuntime) {
     all_ask(&rt, &STORES);
+}
+
+#[test]
+fn atomic_accesses_ask_and_finish(rt: HostRuntime) {
     all_ask(&rt, &SWAPS);
     all_ask(&rt, &AT_THE_ENDS);
+}
+
+#[test]
+fn prefetches_ask_nothing(rt: HostRuntime) {
     all_step(&rt, &PREFETCHES);
 }
 
