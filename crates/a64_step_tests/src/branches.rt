@@ -4,7 +4,7 @@
 use crate::state::{GREATEST, LEAST, ONES, PC, Step, TPIDR};
 
 /// Branches, forwards and backwards, taken and not; what is far, near 0 and near 2^64 is by the manual, modulo 2^64.
-pub const BRANCHES: [Step; 59] = [
+pub static BRANCHES: [Step; 59] = [
     step!(0x1400_0002, [] 0b0000 => [PC: 0x40_1008] 0b0000), // b .+8
     step!(0x1400_0001, [] 0b0000 => [] 0b0000), // b .+4
     step!(0x17FF_FFFC, [] 0b0000 => [PC: 0x40_0FF0] 0b0000), // b .-16
@@ -67,7 +67,7 @@ pub const BRANCHES: [Step; 59] = [
 ];
 
 /// Hints and barriers, which have no effect, and the thread pointer.
-pub const SYSTEM: [Step; 13] = [
+pub static SYSTEM: [Step; 13] = [
     step!(0xD503_201F, [] 0b1010 => [] 0b1010), // nop
     step!(0xD503_203F, [] 0b1010 => [] 0b1010), // yield
     step!(0xD503_205F, [] 0b1010 => [] 0b1010), // wfe
@@ -98,7 +98,7 @@ macro_rules! holds {
 }
 
 /// All conditions.
-pub const CONDITIONS: [Holds; 16] = [
+pub static CONDITIONS: [Holds; 16] = [
     holds!(0x9A82_0020, 0x5400_0040, 0b1111_0000_1111_0000), // eq
     holds!(0x9A82_1020, 0x5400_0041, 0b0000_1111_0000_1111), // ne
     holds!(0x9A82_2020, 0x5400_0042, 0b1100_1100_1100_1100), // cs

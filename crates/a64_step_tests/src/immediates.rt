@@ -4,7 +4,7 @@
 use crate::state::{GREATEST, LEAST, ONES, PC, Step};
 
 /// Sums with immediates, patterns of bits, and moves of immediates.
-pub const IMMEDIATES: [Step; 46] = [
+pub static IMMEDIATES: [Step; 46] = [
     step!(0x9100_0020, [1: ONES] 0b1111 => [0: ONES] 0b1111), // add x0, x1, #0
     step!(0x913F_FC20, [1: ONES] 0b0000 => [0: 0xFFE] 0b0000), // add x0, x1, #4095
     step!(0x917F_FC20, [1: 1] 0b0000 => [0: 0xFF_F001] 0b0000), // add x0, x1, #4095, lsl #12
@@ -54,7 +54,7 @@ pub const IMMEDIATES: [Step; 46] = [
 ];
 
 /// Bitfield moves: a field moved down (immr at most imms) and one moved up, with their other names.
-pub const BITFIELDS: [Step; 49] = [
+pub static BITFIELDS: [Step; 49] = [
     step!(0x9340_FC20, [1: 0xF123_4567_89AB_CDEF] 0b0000 => [0: 0xF123_4567_89AB_CDEF] 0b0000), // asr x0, x1, #0
     step!(0x937F_FC20, [1: 0xF123_4567_89AB_CDEF] 0b0000 => [0: ONES] 0b0000), // asr x0, x1, #63
     step!(0x9344_FC20, [1: 0xF123_4567_89AB_CDEF] 0b0000 => [0: 0xFF12_3456_789A_BCDE] 0b0000), // asr x0, x1, #4
@@ -107,7 +107,7 @@ pub const BITFIELDS: [Step; 49] = [
 ];
 
 /// EXTR, and ROR (immediate), which is EXTR of one register.
-pub const EXTRACTED: [Step; 9] = [
+pub static EXTRACTED: [Step; 9] = [
     step!(0x93C2_0020, [1: 0xF123_4567_89AB_CDEF, 2: 0x102_0304_0506_0708] 0b0000 => [0: 0x102_0304_0506_0708] 0b0000), // extr x0, x1, x2, #0
     step!(0x93C2_0420, [1: 0xF123_4567_89AB_CDEF, 2: 0x102_0304_0506_0708] 0b0000 => [0: 0x8081_0182_0283_0384] 0b0000), // extr x0, x1, x2, #1
     step!(0x93C2_FC20, [1: 0xF123_4567_89AB_CDEF, 2: 0x102_0304_0506_0708] 0b0000 => [0: 0xE246_8ACF_1357_9BDE] 0b0000), // extr x0, x1, x2, #63
@@ -120,7 +120,7 @@ pub const EXTRACTED: [Step; 9] = [
 ];
 
 /// ADR and ADRP, forwards and backwards; what is near 0 and near 2^64 is by the manual, modulo 2^64.
-pub const PLACES: [Step; 17] = [
+pub static PLACES: [Step; 17] = [
     step!(0x1000_0040, [] 0b0000 => [0: 0x40_1008] 0b0000), // adr x0, .+8
     step!(0x70FF_FFE0, [] 0b0000 => [0: 0x40_0FFF] 0b0000), // adr x0, .-1
     step!(0x707F_FFE0, [] 0b0000 => [0: 0x50_0FFF] 0b0000), // adr x0, .+0xfffff

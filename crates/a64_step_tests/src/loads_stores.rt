@@ -93,7 +93,7 @@ macro_rules! misaligned {
 }
 
 /// Loads of one register, with offsets and literals.
-pub const LOADS: [Asks; 52] = [
+pub static LOADS: [Asks; 52] = [
     loads!(0xF940_0420, [1: 0x41_0000] => 0x41_0008, 8, NEGATIVE => [0: 0x8796_A5B4_C3D2_E1F0]), // ldr x0, [x1, #8]
     loads!(0xB940_0420, [1: 0x41_0000] => 0x41_0004, 4, NEGATIVE => [0: 0xC3D2_E1F0]), // ldr w0, [x1, #4]
     loads!(0x3940_0420, [1: 0x41_0000] => 0x41_0001, 1, NEGATIVE => [0: 240]), // ldrb w0, [x1, #1]
@@ -149,7 +149,7 @@ pub const LOADS: [Asks; 52] = [
 ];
 
 /// Loads of one register with pre-index and post-index.
-pub const LOADS_INDEXED: [Asks; 18] = [
+pub static LOADS_INDEXED: [Asks; 18] = [
     loads!(0xF85F_8C20, [1: 0x41_0000] => 0x40_FFF8, 8, NEGATIVE => [0: 0x8796_A5B4_C3D2_E1F0, 1: 0x40_FFF8]), // ldr x0, [x1, #-8]!
     loads!(0xB84F_FC20, [1: 0x41_0000] => 0x41_00FF, 4, NEGATIVE => [0: 0xC3D2_E1F0, 1: 0x41_00FF]), // ldr w0, [x1, #255]!
     loads!(0x3850_0C20, [1: 0x41_0000] => 0x40_FF00, 1, NEGATIVE => [0: 240, 1: 0x40_FF00]), // ldrb w0, [x1, #-256]!
@@ -171,7 +171,7 @@ pub const LOADS_INDEXED: [Asks; 18] = [
 ];
 
 /// Loads of pairs.
-pub const LOADS_OF_PAIRS: [Asks; 20] = [
+pub static LOADS_OF_PAIRS: [Asks; 20] = [
     loads!(0xA941_0820, [1: 0x41_0000] => 0x41_0010, 16, NEGATIVE => [0: 0x8796_A5B4_C3D2_E1F0, 2: 0xF1E_2D3C_4B5A_6978]), // ldp x0, x2, [x1, #16]
     loads!(0xA960_0820, [1: 0x41_0000] => 0x40_FE00, 16, NEGATIVE => [0: 0x8796_A5B4_C3D2_E1F0, 2: 0xF1E_2D3C_4B5A_6978]), // ldp x0, x2, [x1, #-512]
     loads!(0xA95F_8820, [1: 0x41_0000] => 0x41_01F8, 16, NEGATIVE => [0: 0x8796_A5B4_C3D2_E1F0, 2: 0xF1E_2D3C_4B5A_6978]), // ldp x0, x2, [x1, #504]
@@ -195,7 +195,7 @@ pub const LOADS_OF_PAIRS: [Asks; 20] = [
 ];
 
 /// LDAR and LDXR and their kin; the latter leave a mark.
-pub const LOADS_ORDERED: [Asks; 16] = [
+pub static LOADS_ORDERED: [Asks; 16] = [
     loads!(0xC8DF_FC20, [1: 0x41_0008] => 0x41_0008, 8, NEGATIVE => [0: 0x8796_A5B4_C3D2_E1F0]), // ldar x0, [x1]
     loads!(0x88DF_FC20, [1: 0x41_0008] => 0x41_0008, 4, NEGATIVE => [0: 0xC3D2_E1F0]), // ldar w0, [x1]
     loads!(0x08DF_FC20, [1: 0x41_0008] => 0x41_0008, 1, NEGATIVE => [0: 240]), // ldarb w0, [x1]
@@ -215,7 +215,7 @@ pub const LOADS_ORDERED: [Asks; 16] = [
 ];
 
 /// Stores of one register and of pairs, and STLR.
-pub const STORES: [Asks; 45] = [
+pub static STORES: [Asks; 45] = [
     stores!(0xF900_0420, [0: 0x8877_6655_4433_2211, 1: 0x41_0000] => 0x41_0008, 8, 0x8877_6655_4433_2211 => []), // str x0, [x1, #8]
     stores!(0xB900_0420, [0: 0x8877_6655_4433_2211, 1: 0x41_0000] => 0x41_0004, 4, 0x4433_2211 => []), // str w0, [x1, #4]
     stores!(0x393F_FC20, [0: 0x8877_6655_4433_2211, 1: 0x41_0000] => 0x41_0FFF, 1, 17 => []), // strb w0, [x1, #4095]
@@ -264,7 +264,7 @@ pub const STORES: [Asks; 45] = [
 ];
 
 /// CAS and the atomic operations, whose numbers are cut to the size of the access.
-pub const SWAPS: [Asks; 41] = [
+pub static SWAPS: [Asks; 41] = [
     compares!(0xC8A0_7C22, [0: 0xFFEE_DDCC_BBAA_9988, 1: 0x41_0000, 2: 0x8877_6655_4433_2211] => 0x41_0000, 8, 0x8877_6655_4433_2211, 0xFFEE_DDCC_BBAA_9988 => [0: 0x8796_A5B4_C3D2_E1F0]), // cas x0, x2, [x1]
     compares!(0x88A0_7C22, [0: 0xFFEE_DDCC_BBAA_9988, 1: 0x41_0000, 2: 0x8877_6655_4433_2211] => 0x41_0000, 4, 0x4433_2211, 0xBBAA_9988 => [0: 0xC3D2_E1F0]), // cas w0, w2, [x1]
     compares!(0x08A0_7C22, [0: 0xFFEE_DDCC_BBAA_9988, 1: 0x41_0000, 2: 0x8877_6655_4433_2211] => 0x41_0000, 1, 17, 136 => [0: 240]), // casb w0, w2, [x1]
@@ -309,7 +309,7 @@ pub const SWAPS: [Asks; 41] = [
 ];
 
 /// Accesses far from pc, near 0 and near 2^64, by the manual: addresses and written bases are taken modulo 2^64.
-pub const AT_THE_ENDS: [Asks; 14] = [
+pub static AT_THE_ENDS: [Asks; 14] = [
     loads!(0x187F_FFE0, [] => 0x50_0FFC, 4, NEGATIVE => [0: 0xC3D2_E1F0]), // ldr w0, .+0xffffc
     loads!(0x5880_0000, [] => 0x30_1000, 8, NEGATIVE => [0: 0x8796_A5B4_C3D2_E1F0]), // ldr x0, .-0x100000
     loads!(0x98FF_FFC0, [PC: 4] => 0xFFFF_FFFF_FFFF_FFFC, 4, NEGATIVE => [0: 0xFFFF_FFFF_C3D2_E1F0]), // ldrsw x0, .-8
@@ -327,7 +327,7 @@ pub const AT_THE_ENDS: [Asks; 14] = [
 ];
 
 /// STXR and its kin.
-pub const EXCLUSIVE: [Exclusive; 11] = [
+pub static EXCLUSIVE: [Exclusive; 11] = [
     exclusive!(0xC800_7C22, [1: 0x41_0000, 2: 0x8877_6655_4433_2211] => 0x41_0000, 8, 0x8877_6655_4433_2211, 0), // stxr w0, x2, [x1]
     exclusive!(0x8800_7C22, [1: 0x41_0004, 2: 0x8877_6655_4433_2211] => 0x41_0004, 4, 0x4433_2211, 0), // stxr w0, w2, [x1]
     exclusive!(0x0800_7C22, [1: 0x41_0003, 2: 0x8877_6655_4433_2211] => 0x41_0003, 1, 17, 0), // stxrb w0, w2, [x1]
@@ -343,7 +343,7 @@ pub const EXCLUSIVE: [Exclusive; 11] = [
 
 /// Accesses that their alignment refuses, by the manual: the address is the stack pointer's where that is no multiple of 16, and
 /// else that of the access.
-pub const MISALIGNED: [Misaligned; 34] = [
+pub static MISALIGNED: [Misaligned; 34] = [
     misaligned!(0xF940_03E0, [SP: 0x41_0108] => 0x41_0108), // ldr x0, [sp]
     misaligned!(0x3940_23E0, [SP: 0x41_0108] => 0x41_0108), // ldrb w0, [sp, #8]
     misaligned!(0xF800_87E0, [SP: 0x41_0108] => 0x41_0108), // str x0, [sp], #8
@@ -381,7 +381,7 @@ pub const MISALIGNED: [Misaligned; 34] = [
 ];
 
 /// Prefetches, by the manual: they make no access, and nothing refuses them.
-pub const PREFETCHES: [Step; 5] = [
+pub static PREFETCHES: [Step; 5] = [
     step!(0xF980_07E0, [SP: 0x41_0108] 0b0000 => [] 0b0000), // prfm pldl1keep, [sp, #8]
     step!(0xF89F_F3E0, [SP: 0x41_0108] 0b0000 => [] 0b0000), // prfum pldl1keep, [sp, #-1]
     step!(0xF8A2_6BF0, [SP: 0x41_0108] 0b0000 => [] 0b0000), // prfm pstl1keep, [sp, x2]

@@ -3,7 +3,7 @@
 use crate::state::{ONES, SP, Step, TPIDR};
 
 /// Where register 31 is the stack pointer, and where it reads as 0 and loses what is written to it.
-pub const STACK_POINTER_OR_ZERO: [Step; 53] = [
+pub static STACK_POINTER_OR_ZERO: [Step; 53] = [
     step!(0x9100_43FF, [] 0b0000 => [SP: 0x8_0000] 0b0000), // add sp, sp, #16
     step!(0xD100_403F, [1: 0] 0b0000 => [SP: 0xFFFF_FFFF_FFFF_FFF0] 0b0000), // sub sp, x1, #16
     step!(0x9100_07E0, [] 0b0000 => [0: 0x7_FFF1] 0b0000), // add x0, sp, #1

@@ -3,7 +3,7 @@
 use crate::state::{GREATEST, LEAST, ONES, Step};
 
 /// Sums of 64 and 32 bits with their flags, and of 32 bits with something above them. No flag is set by ADD and ADC.
-pub const SUMS: [Step; 36] = [
+pub static SUMS: [Step; 36] = [
     step!(0xAB02_0020, [1: 0, 2: 0] 0b1111 => [0: 0] 0b0100), // adds x0, x1, x2
     step!(0xAB02_0020, [1: ONES, 2: 1] 0b1111 => [0: 0] 0b0110), // adds x0, x1, x2
     step!(0xAB02_0020, [1: ONES, 2: ONES] 0b1111 => [0: 0xFFFF_FFFF_FFFF_FFFE] 0b1010), // adds x0, x1, x2
@@ -43,7 +43,7 @@ pub const SUMS: [Step; 36] = [
 ];
 
 /// Differences of 64 and 32 bits with their flags, C being set where nothing is borrowed.
-pub const DIFFERENCES: [Step; 44] = [
+pub static DIFFERENCES: [Step; 44] = [
     step!(0xEB02_0020, [1: 0, 2: 0] 0b1111 => [0: 0] 0b0110), // subs x0, x1, x2
     step!(0xEB02_0020, [1: 0, 2: 1] 0b1111 => [0: ONES] 0b1000), // subs x0, x1, x2
     step!(0xEB02_0020, [1: 1, 2: 0] 0b1111 => [0: 1] 0b0010), // subs x0, x1, x2
@@ -91,7 +91,7 @@ pub const DIFFERENCES: [Step; 44] = [
 ];
 
 /// ANDS and BICS set N and Z and clear C and V; AND, BIC, ORR, ORN, EOR and EON leave the flags.
-pub const LOGIC_FLAGS: [Step; 25] = [
+pub static LOGIC_FLAGS: [Step; 25] = [
     step!(0xEA02_0020, [1: 0x8000_0000_0000_0001, 2: ONES] 0b1111 => [0: 0x8000_0000_0000_0001] 0b1000), // ands x0, x1, x2
     step!(0xEA02_0020, [1: 5, 2: 10] 0b1111 => [0: 0] 0b0100), // ands x0, x1, x2
     step!(0xEA02_0020, [1: GREATEST, 2: ONES] 0b1111 => [0: GREATEST] 0b0000), // ands x0, x1, x2
@@ -120,7 +120,7 @@ pub const LOGIC_FLAGS: [Step; 25] = [
 ];
 
 /// CCMP and CCMN: the flags of the comparison where the condition holds, and else those of the immediate.
-pub const COMPARISONS: [Step; 19] = [
+pub static COMPARISONS: [Step; 19] = [
     step!(0xFA42_002F, [1: 5, 2: 5] 0b0100 => [] 0b0110), // ccmp x1, x2, #0b1111, eq
     step!(0xFA42_002A, [1: 5, 2: 5] 0b0000 => [] 0b1010), // ccmp x1, x2, #0b1010, eq
     step!(0xFA42_1025, [1: 0, 2: 1] 0b1011 => [] 0b1000), // ccmp x1, x2, #0b0101, ne
@@ -143,7 +143,7 @@ pub const COMPARISONS: [Step; 19] = [
 ];
 
 /// CSEL and its kin, each where its condition holds and where it fails, and their other names.
-pub const SELECTED: [Step; 30] = [
+pub static SELECTED: [Step; 30] = [
     step!(0x9A82_0020, [1: 0x5_0000_000B, 2: 0x5_0000_0016] 0b0100 => [0: 0x5_0000_000B] 0b0100), // csel x0, x1, x2, eq
     step!(0x9A82_0020, [1: 0x5_0000_000B, 2: 0x5_0000_0016] 0b1011 => [0: 0x5_0000_0016] 0b1011), // csel x0, x1, x2, eq
     step!(0x1A82_0020, [1: 0x5_0000_000B, 2: 0x5_0000_0016] 0b0100 => [0: 11] 0b0100), // csel w0, w1, w2, eq
@@ -177,7 +177,7 @@ pub const SELECTED: [Step; 30] = [
 ];
 
 /// Shifts and rotations by immediates, at 0 and at the width less 1, and by registers, whose counts are taken modulo the width.
-pub const SHIFTS: [Step; 78] = [
+pub static SHIFTS: [Step; 78] = [
     step!(0xAA02_03E0, [2: 0x8234_5678_90AB_CDE1] 0b0000 => [0: 0x8234_5678_90AB_CDE1] 0b0000), // orr x0, xzr, x2, lsl #0
     step!(0xAA02_07E0, [2: 0x8234_5678_90AB_CDE1] 0b0000 => [0: 0x468_ACF1_2157_9BC2] 0b0000), // orr x0, xzr, x2, lsl #1
     step!(0xAA02_FFE0, [2: 0x8234_5678_90AB_CDE1] 0b0000 => [0: LEAST] 0b0000), // orr x0, xzr, x2, lsl #63
@@ -259,7 +259,7 @@ pub const SHIFTS: [Step; 78] = [
 ];
 
 /// Extended operands with amounts from 0 to 4.
-pub const EXTENDS: [Step; 37] = [
+pub static EXTENDS: [Step; 37] = [
     step!(0x8B22_0020, [1: 0x1000, 2: 0xFEDC_BA98_89AB_CDEF] 0b0000 => [0: 0x10EF] 0b0000), // add x0, x1, w2, uxtb #0
     step!(0x8B22_1020, [1: 0x1000, 2: 0xFEDC_BA98_89AB_CDEF] 0b0000 => [0: 0x1EF0] 0b0000), // add x0, x1, w2, uxtb #4
     step!(0xCB22_0420, [1: 0x1000, 2: 0x7000_0000_7000_7071] 0b0000 => [0: 0xF1E] 0b0000), // sub x0, x1, w2, uxtb #1
@@ -300,7 +300,7 @@ pub const EXTENDS: [Step; 37] = [
 ];
 
 /// Divisions: by 0, the least number by -1, and rounding towards 0.
-pub const QUOTIENTS: [Step; 30] = [
+pub static QUOTIENTS: [Step; 30] = [
     step!(0x9AC2_0820, [1: 5, 2: 0] 0b0000 => [0: 0] 0b0000), // udiv x0, x1, x2
     step!(0x9AC2_0820, [1: 0, 2: 0] 0b0000 => [0: 0] 0b0000), // udiv x0, x1, x2
     step!(0x9AC2_0820, [1: ONES, 2: 1] 0b0000 => [0: ONES] 0b0000), // udiv x0, x1, x2
@@ -334,7 +334,7 @@ pub const QUOTIENTS: [Step; 30] = [
 ];
 
 /// Products, which wrap, long ones, which take 32 bits of each factor, and the upper halves of long ones.
-pub const PRODUCTS: [Step; 47] = [
+pub static PRODUCTS: [Step; 47] = [
     step!(0x9B02_0C20, [1: ONES, 2: ONES, 3: 0] 0b0000 => [0: 1] 0b0000), // madd x0, x1, x2, x3
     step!(0x9B02_8C20, [1: ONES, 2: ONES, 3: 0] 0b0000 => [0: ONES] 0b0000), // msub x0, x1, x2, x3
     step!(0x9B02_0C20, [1: LEAST, 2: 2, 3: 7] 0b0000 => [0: 7] 0b0000), // madd x0, x1, x2, x3
@@ -385,7 +385,7 @@ pub const PRODUCTS: [Step; 47] = [
 ];
 
 /// RBIT, REV16, REV32, REV, CLZ and CLS.
-pub const BITS: [Step; 39] = [
+pub static BITS: [Step; 39] = [
     step!(0xDAC0_0020, [1: 0x123_4567_89AB_CDEF] 0b0000 => [0: 0xF7B3_D591_E6A2_C480] 0b0000), // rbit x0, x1
     step!(0x5AC0_0020, [1: 0x123_4567_89AB_CDEF] 0b0000 => [0: 0xF7B3_D591] 0b0000), // rbit w0, w1
     step!(0xDAC0_0420, [1: 0x123_4567_89AB_CDEF] 0b0000 => [0: 0x2301_6745_AB89_EFCD] 0b0000), // rev16 x0, x1
