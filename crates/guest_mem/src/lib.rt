@@ -6,7 +6,6 @@
 #![tactic(auto)]
 
 mod marks;
-mod page_store;
 mod shard;
 mod swaps;
 #[cfg(test)]

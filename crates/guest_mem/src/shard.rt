@@ -3,14 +3,14 @@
 ghost use Rattle.std.specs.Prelude.{◌≡◌, ℕ, ◌+◌, ◌%◌, ◌<◌, ◌≤◌, ◌⊎◌, ◌↔◌, length, IfOk, IsErr, IsTrue, MatchOption, OnOk, OnErr, option_map, slice_range, slice_index_or, if◌then◌else◌};
 ghost use Rattle.std.specs.FinMap as finite;
 ghost use Rattle.places.specs.Places as place;
-ghost use Rattle.guest_mem.specs.Pages.{page_for, reads, writes, has_any, IsLeastKept};
+ghost use Rattle.page_store.specs.Pages.{page_for, reads, writes, has_any, IsLeastKept};
 ghost use Rattle.guest_mem.specs.Swaps.{outcome, has_outcome};
 ghost use Rattle.guest_mem.specs.Held.{Held, IsInPage, IsFullFor, started, stored, marked_by, unmapped, zeroed, mapped, protected};
 
 use crate::marks::Marks;
-use crate::page_store::PageStore;
 use crate::swaps::{has_outcome_of, outcome_of};
 use a64_model::access::{Fault, SwapOp};
+use page_store::PageStore;
 use std::alloc::{AllocError, Global};
 use std::marker::Model;
 use vm_areas::Rights;

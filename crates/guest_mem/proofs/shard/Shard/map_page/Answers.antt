@@ -1,7 +1,7 @@
-use Rattle.std.proofs.Common.{◌≡◌, ◌-◌, true, false, sym, ap, ◌∙◌, if◌then◌else◌}
+use Rattle.std.proofs.Common.{◌≡◌, ◌-◌, true, sym, ap, ◌∙◌, if◌then◌else◌}
 use Rattle.std.specs.FinMap as finite
-use Rattle.guest_mem.specs.Pages.{has_any, changed, blanked, blank}
-use Rattle.guest_mem.proofs.Changed.{renewed}
+use Rattle.page_store.specs.Pages.{has_any, changed, blanked, blank}
+use Rattle.page_store.proofs.Changed.{renewed}
 use Rattle.guest_mem.proofs.shard.Shard.map_page.Goals as goal
 
 -- a kept page gets the rights and is made zeros

@@ -1,7 +1,0 @@
-use Rattle.std.proofs.Common.{ap, ◌∙◌, replicate}
-use Rattle.guest_mem.specs.Pages.{blank}
-use Rattle.guest_mem.proofs.page_store.blank_out.Goals as goal
-
-pub returns : goal.returns
-unfolding blank
-returns c = c.fill.ensures.after (λ y e. e) ∙ ap (λ n. replicate n 0) c.told-frame

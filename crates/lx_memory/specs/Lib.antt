@@ -1,0 +1,6 @@
+pub mod Access
+pub mod Bytes
+pub mod Ranges
+pub mod Gaps
+pub mod Space
+pub mod MemoryFields

@@ -1,0 +1,7 @@
+use Rattle.std.proofs.Common.{refl}
+use Rattle.page_store.specs.Pages.{blank}
+use Rattle.page_store.proofs.page_store.blank_frame.Goals as goal
+
+pub returns : goal.returns
+unfolding blank
+returns c = refl
