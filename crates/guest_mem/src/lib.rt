@@ -7,7 +7,7 @@
 
 mod marks;
 mod shard;
-mod swaps;
+pub mod swaps;
 #[cfg(test)]
 mod tests;
 

@@ -1,12 +1,12 @@
-// What an atomic access writes.
+//! What an atomic access writes (DDI 0487, C6.2: LDADD, LDCLR, LDEOR, LDSET, SWP, CAS).
 
 ghost use Rattle.std.specs.Prelude.{◌≡◌, ◌%◌, ◌^◌};
 ghost use Rattle.guest_mem.specs.Swaps.{outcome, has_outcome};
 
 use a64_model::access::SwapOp;
 
-// Whether the access writes.
-pub(crate) fn has_outcome_of(op: SwapOp, old: u64, expected: u64) -> bool
+/// Whether the access writes, where the old number is `old`: a compare-and-swap does where it is the expected one.
+pub fn has_outcome_of(op: SwapOp, old: u64, expected: u64) -> bool
     ensures { result ≡ has_outcome op old expected }
 {
     match op {
@@ -15,8 +15,8 @@ pub(crate) fn has_outcome_of(op: SwapOp, old: u64, expected: u64) -> bool
     }
 }
 
-// The number whose low bytes it writes.
-pub(crate) fn outcome_of(op: SwapOp, old: u64, value: u64) -> u64
+/// The number whose low bytes it writes.
+pub fn outcome_of(op: SwapOp, old: u64, value: u64) -> u64
     ensures { result ≡ outcome op old value % 2 ^ 64 }
 {
     match op {
