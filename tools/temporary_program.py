@@ -1,7 +1,7 @@
 """Builds a small program over crates of this repository, in a temporary copy of them.
 
 A source file of the language may stand in a crate alone, and a crate for a measurement would be part of the gate, so the
-scripts of tools/ keep the text of their programs and build them with this module."""
+scripts of tools/ keep the text of their programs and build them with this module. It also finds linuxulator itself."""
 
 import pathlib
 import shutil
@@ -18,6 +18,13 @@ def skip_without(*tools):
         if shutil.which(tool) is None:
             print(f"{pathlib.Path(sys.argv[0]).name}: skipped, since {tool} is not here")
             sys.exit(0)
+
+
+def linuxulator():
+    """The built program. The shell script builds it where that is needed."""
+    if subprocess.run([ROOT / "linuxulator", "--version"], stdout=subprocess.DEVNULL).returncode != 0:
+        sys.exit("linuxulator could not be built")
+    return ROOT / "crates/linuxulator/out/linuxulator"
 
 
 def crates_below(names):

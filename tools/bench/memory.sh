@@ -9,7 +9,7 @@ copy=$(mktemp -d) || exit 1
 trap 'rm -rf "$copy"' EXIT
 root=$here/../..
 mkdir -p "$copy/crates/memory_speed/src"
-for name in places sorted_entries a64_model vm_areas guest_mem; do
+for name in places sorted_entries a64_model vm_areas page_store guest_mem; do
     (cd "$root/crates" && tar -cf - --exclude=out "$name") | tar -xf - -C "$copy/crates" || exit 1
     grep "^$name:" "$root/crates.txt" >>"$copy/crates.txt" || exit 1
 done

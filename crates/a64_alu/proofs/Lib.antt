@@ -1,3 +1,4 @@
 pub mod Widths
 pub mod SumFlags
 pub mod Fields
+pub mod Highest

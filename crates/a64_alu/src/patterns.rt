@@ -3,7 +3,27 @@ ghost use Rattle.std.specs.Prelude.{◌≡◌, ◌<◌, ◌≤◌, ◌^◌, IsTr
 ghost use Rattle.a64_model.specs.BitMasks.{element_log, element_size, is_pattern, pattern, decode_bit_masks};
 
 use a64_model::operands::Width;
-use a64_model::read::immediates::element_size;
+
+/// The binary logarithm of the size of the elements that a logical immediate repeats.
+fn element_log(n: u32, imms: u32) -> u32
+    requires bit { n < 2 }
+    requires six_bits { imms < 64 }
+    ensures value { result ≡ element_log n imms }
+    ensures small { result ≤ 6 }
+{
+    31u32.saturating_sub((n * 64 + (63 - imms)).leading_zeros())
+}
+
+/// The number of bits of those elements.
+fn element_size(n: u32, imms: u32) -> u32
+    requires bit { n < 2 }
+    requires six_bits { imms < 64 }
+    ensures value { result ≡ element_size n imms }
+    ensures in_word { result ≤ 64 }
+    ensures some { 1 ≤ element_log n imms → 1 < result }
+{
+    1 << element_log(n, imms)
+}
 
 /// An element of `size` bits with imms + 1 ones, rotated right by immr, over 64 bits; both modulo `size`.
 fn pattern(size: u32, immr: u32, imms: u32) -> u64

@@ -1,2 +1,2 @@
 pub mod ApartLemmas
-pub mod Highest
+pub mod Patterns

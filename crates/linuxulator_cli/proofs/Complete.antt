@@ -1,17 +1,15 @@
 -- With all that a run needs given, the end is the run's.
-use Rattle.std.proofs.Common.{◌≡◌, ◌≢◌, List, ℕ, None, Some, inl, inr, refl, sym, ◌∙◌, ap, subst, arith, true, false}
+use Rattle.std.proofs.Common.{◌≡◌, ◌≢◌, List, ℕ, Some, inl, inr, refl, sym, subst, arith}
 use Rattle.std.proofs.lemmas.Grind.{common_steps}
-use Rattle.std.specs.declared.option.Option.{Option}
 use Rattle.outside.specs.Shelves.{MayHold, Told}
 use Rattle.elf_image.specs.Images.{image_of}
-use Rattle.elf_image.specs.Rules.{image_fault}
 use Rattle.plain_machine.specs.Program.{ProgramView}
 use Rattle.plain_machine.specs.Plain.{State, plain, EndsBy}
 use Rattle.plain_machine.specs.declared.running.RunEnd.{RunEnd}
 use Rattle.plain_machine.specs.declared.running.RunEnd.TheVariants as run
 use Rattle.linuxulator_cli.specs.Words.{image_name}
-use Rattle.linuxulator_cli.specs.Programs.{IsProgramOf, program_of}
-use Rattle.linuxulator_cli.specs.Outcome.{Outside, HasRun, HasRunCut, HasNoFile, HasNoProgram, Cause, IsGiven, IsComplete, end_of}
+use Rattle.linuxulator_cli.specs.Programs.{IsProgramOf}
+use Rattle.linuxulator_cli.specs.Outcome.{Outside, HasRun, Cause, IsComplete, end_of}
 use Rattle.linuxulator_cli.specs.declared.outcome.TheConstants.{FUEL}
 use Rattle.linuxulator_cli.specs.declared.outcome.End.{End}
 use Rattle.linuxulator_cli.specs.declared.outcome.End.TheVariants.{Exited, FuelSpent, Usage, LoadFault, WriteFault, BadImage, TooLong, NotBuilt, NoMemory}

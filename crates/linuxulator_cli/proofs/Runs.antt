@@ -1,5 +1,5 @@
 -- A run that was put out is the cause of its end.
-use Rattle.std.proofs.Common.{List, ℕ, inl, inr}
+use Rattle.std.proofs.Common.{List, ℕ, inr}
 use Rattle.plain_machine.specs.declared.running.RunEnd.{RunEnd}
 use Rattle.plain_machine.specs.declared.running.RunEnd.TheVariants as run
 use Rattle.linuxulator_cli.specs.Outcome.{Outside, HasRun, Cause, end_of}

@@ -13,7 +13,6 @@ use Rattle.plain_machine.specs.declared.running.RunEnd.TheVariants as run
 use Rattle.linuxulator_cli.specs.Lines.{last_line}
 use Rattle.linuxulator_cli.specs.Words.{usage_fault, image_name}
 use Rattle.linuxulator_cli.specs.Programs.{IsProgramOf, RefusesImage}
-use Rattle.linuxulator_cli.specs.declared.words.UsageFault.{UsageFault}
 use Rattle.linuxulator_cli.specs.declared.outcome.End.{End}
 use Rattle.linuxulator_cli.specs.declared.outcome.End.TheVariants.{Exited, FuelSpent, Usage, LoadFault, WriteFault, BadImage, TooLong, NotBuilt, NoMemory}
 use Rattle.linuxulator_cli.specs.declared.outcome.TheConstants.{FUEL, IMAGE_LIMIT}

@@ -5,7 +5,7 @@ use Rattle.std.specs.Option.{option_map}
 use Rattle.std.specs.declared.option.Option.{Option}
 use Rattle.elf_image.specs.declared.parts.Image.{Image}
 use Rattle.elf_image.specs.declared.parts.Segment.{Segment}
-use Rattle.elf_image.specs.Images.{IsImage, image_of}
+use Rattle.elf_image.specs.Images.{image_of}
 use Rattle.elf_image.specs.Rules.{image_fault}
 use Rattle.elf_image.specs.declared.fault.ElfFault.{ElfFault}
 use Rattle.elf_image.specs.declared.fault.ElfKind.{ElfKind}

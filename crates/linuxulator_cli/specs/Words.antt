@@ -1,5 +1,5 @@
 -- Words and UsageFault: the words of the command line, each as its bytes, and what they mean. This project's own.
-use Rattle.std.specs.Prelude.{◌≡◌, ℕ, List, [], ◌∷◌, None, Some, if◌then◌else◌, ◌==◌, codes, slice_index_or}
+use Rattle.std.specs.Prelude.{ℕ, List, [], ◌∷◌, None, Some, if◌then◌else◌, ◌==◌, codes, slice_index_or}
 use Rattle.std.specs.declared.option.Option.{Option}
 use Rattle.std.specs.Str.{bytes_eq}
 use Rattle.linuxulator_cli.specs.declared.words.UsageFault.{UsageFault}

@@ -94,8 +94,8 @@ fn run_case(
     })
 }
 
-// The runs exit-42, write-ok-line, hint-not-built, failing-and-long-inputs in the shelf's part,
-// usage-faults in its part, and a sink that fails at each of its calls.
+// The runs exit-42, write-ok-line, failing-and-long-inputs in the shelf's part, usage-faults in its part,
+// and a sink that fails at each of its calls; a trap, and a loop without an end.
 #[test]
 fn ends_bytes_and_last_lines(rt: HostRuntime) -> Result<(), Fail> {
     let alloc = rt.alloc();
@@ -143,7 +143,8 @@ fn ends_bytes_and_last_lines(rt: HostRuntime) -> Result<(), Fail> {
         ),
         (
             "run guest",
-            &[0xd503_201f],
+            // brk #0
+            &[0xd420_0000],
             (NONE, NONE, NONE),
             117,
             0,
@@ -273,15 +274,73 @@ fn calls_that_are_refused_or_not_built(rt: HostRuntime) -> Result<(), Fail> {
             6,
             "",
         ),
-        // add x0, sp, #1 isn't built
+    ] {
+        let told = run_case(alloc, "run guest", image(alloc, code)?, none)?;
+        assert!(rt; told.err.as_slice() == err.as_bytes(), "{count}: {err}");
+        assert!(rt; told.out.is_empty(), "{count}: {err}");
+        assert!(rt;
+            told.status == status && told.count == count,
+            "{count}: {err}"
+        );
+    }
+    Ok(())
+}
+
+// Exits with 14: the sum of 10 down to 1 is 55; divided by 4 it is 13; 1 is added, since the last SUBS
+// left 0.
+const COMPUTE: [u32; 10] = [
+    0xd280_0000, // mov x0, #0
+    0xd280_0141, // mov x1, #10
+    0x8b01_0000, // loop: add x0, x0, x1
+    0xf100_0421, // subs x1, x1, #1
+    0xb5ff_ffc1, // cbnz x1, loop
+    0xd280_0082, // mov x2, #4
+    0x9ac2_0800, // udiv x0, x0, x2
+    0x9a80_1400, // cinc x0, x0, eq
+    0xd280_0ba8, // mov x8, #93
+    0xd400_0001, // svc #0
+];
+
+// A load, which isn't built; what has no effect; a branch to an address that isn't a multiple of 4, at
+// which stand the bytes of a NOP; an addition to the stack pointer, which is 0; and a loop.
+#[test]
+fn instructions_that_ask_nothing_of_memory(rt: HostRuntime) -> Result<(), Fail> {
+    let alloc = rt.alloc();
+    let (exit, svc) = (0xd280_0ba8, 0xd400_0001);
+    for (code, status, count, err) in [
+        // ldr x0, [sp]
         (
-            &[0x9100_07e0],
+            &[0xf940_03e0][..],
             117,
             0,
             "linuxulator: not built at 0x400078\n",
         ),
+        // clrex; nop; yield; dmb ish
+        (
+            &[
+                0xd503_3f5f,
+                0xd503_201f,
+                0xd503_203f,
+                0xd503_3bbf,
+                exit,
+                svc,
+            ],
+            0,
+            7,
+            "",
+        ),
+        // adr x0, .+9; br x0
+        (
+            &[0x3000_0040, 0xd61f_0000, 0x0320_1f00, 0xd5],
+            117,
+            2,
+            "linuxulator: not built at 0x400081\n",
+        ),
+        // add x0, sp, #1
+        (&[0x9100_07e0, exit, svc], 1, 4, ""),
+        (&COMPUTE, 14, 38, ""),
     ] {
-        let told = run_case(alloc, "run guest", image(alloc, code)?, none)?;
+        let told = run_case(alloc, "run guest", image(alloc, code)?, (NONE, NONE, NONE))?;
         assert!(rt; told.err.as_slice() == err.as_bytes(), "{count}: {err}");
         assert!(rt; told.out.is_empty(), "{count}: {err}");
         assert!(rt;

@@ -4,7 +4,7 @@ use Rattle.std.specs.FinMap as map
 use Rattle.page_store.specs.Pages.{Page, Pages}
 use Rattle.lx_memory.specs.declared.change.Change.{Change}
 use Rattle.lx_memory.specs.declared.change.Change.TheVariants.{Unmap, Protect, Zero}
-use Rattle.lx_memory.specs.Ranges.{away, allowed, cleared}
+use Rattle.lx_memory.specs.Ranges.{away, given, cleared}
 
 -- no page past the last one that 64-bit addresses have is mapped
 abbrev pub IsInSpace : Pages → Type 0
@@ -23,5 +23,5 @@ free_count pages first (suc count) = one_if_free (map.get pages first) + free_co
 -- what a change makes of the page at a number
 abbrev pub becomes : Change → Option Page → Option Page
 becomes Unmap = away
-becomes (Protect rights) = allowed rights
+becomes (Protect rights) = given rights
 becomes Zero = cleared

@@ -46,27 +46,20 @@ pub(crate) fn change_each(pages: &mut PageStore, first: u64, count: u64, change:
     }
 }
 
-// 1 where a page is not mapped.
-fn one_free(pages: &PageStore, page: u64) -> u64
-    ensures value { result ≡ one_if_free (finite.get pages.now.pages page) }
-    ensures most { result ≤ 1 }
-{
-    match pages.rights(page) {
-        Some(_) => 0,
-        None => 1,
-    }
-}
-
-// How many pages of a range are not mapped.
-pub(crate) fn count_free(pages: &PageStore, first: u64, count: u64) -> u64
+// How many pages of a range are mapped.
+pub(crate) fn count_mapped(pages: &PageStore, first: u64, count: u64) -> u64
     requires { first + count ≤ 2 ^ 52 }
-    ensures { result ≡ free_count pages.now.pages first count }
+    ensures { result + free_count pages.now.pages first count ≡ count }
 {
-    let mut free = 0;
-    for i in 0..count {
-        free += one_free(pages, first + i);
+    let mut at = first;
+    let mut left = count;
+    let mut mapped = 0;
+    while let Some(page) = pages.next_kept(at, left) {
+        mapped += 1;
+        left -= page - at + 1;
+        at = page + 1;
     }
-    free
+    mapped
 }
 
 // Maps one page, for which there is room if it is not mapped.

@@ -1,10 +1,10 @@
 // The memory of the Linux machine.
 
-ghost use Rattle.std.specs.Prelude.{◌≡◌, ℕ, ◌≤◌, ◌↔◌, length, IfOk, IsTrue, OnErr, OnOk};
+ghost use Rattle.std.specs.Prelude.{◌≡◌, ℕ, ◌≤◌, ◌↔◌, length, IfOk, IsTrue, None, OnErr, OnOk};
 ghost use Rattle.std.specs.FinMap as finite;
 
 use crate::bytes::{load_pieces, store_pieces};
-use crate::change::{Change, change_each, count_free, map_each};
+use crate::change::{Change, change_each, count_mapped, map_each};
 use crate::gaps::{each_mapped, highest_free, is_in_space, some_executable};
 use crate::right::{Right, page_without};
 use page_store::PageStore;
@@ -34,8 +34,6 @@ impl From<AllocError> for NoMemory {
 #[derive(Drop)]
 pub struct Memory {
     pages: PageStore,
-    // How many pages there is room for in all.
-    room: u32,
 }
 
 impl Model for Memory {
@@ -57,14 +55,14 @@ impl Memory {
     ghost use Rattle.lx_memory.specs.Access.{allows, rights_of, IsFirstLacking};
     ghost use Rattle.lx_memory.specs.Bytes.{IsMapped, bytes_at, with_bytes};
     ghost use Rattle.lx_memory.specs.Gaps.{IsMappedAt, IsFreeAt, IsExecutableAt, IsHighestGap};
-    ghost use Rattle.lx_memory.specs.Ranges.{anew, away, allowed, cleared, mapped, unmapped, protected, zeroed, IsOnEach};
+    ghost use Rattle.lx_memory.specs.Ranges.{anew, away, given, cleared, mapped, unmapped, protected, zeroed, IsOnEach};
 
     /// No pages, with room for `room` of them. `NoMemory`: the room for them is refused.
     pub fn make(alloc: Global, room: u32) -> Result<Memory, NoMemory>
         ensures { IfOk result (λ memory. memory ≡ finite.empty) }
     {
         let pages = PageStore::make(alloc, room)?;
-        Ok(Memory { pages, room })
+        Ok(Memory { pages })
     }
 
     /// The rights of a page; `None` exactly where it is not mapped.
@@ -77,9 +75,10 @@ impl Memory {
     /// `None` exactly where each of the `len` bytes from the address `at` on lies on a page that is mapped with the right,
     /// in the address space (`Allowed`, of `places`); else the address of the first byte that does not (sigaction(2),
     /// `si_addr`). Addresses are taken modulo 2^64: it is 0 where the range runs past the last page and lacks nothing
-    /// before.
+    /// before. After `None`, `load` and `store` may be called on the range.
     pub fn first_lacking(&self, right: Right, at: u64, len: u64) -> Option<u64>
-        ensures { IsFirstLacking self.now (allows right) at len result }
+        ensures lacking { IsFirstLacking self.now (allows right) at len result }
+        ensures mapped { result ≡ None → IsMapped self.now at len }
     {
         if len == 0 {
             return None;
@@ -120,10 +119,10 @@ impl Memory {
         ensures each { OnOk result (IsOnEach (anew rights) self.old first count self.new) }
         ensures err { OnErr result (self.new ≡ self.old) }
     {
-        if !is_in_space(first, count) || count > u64::from(self.room) {
+        if !is_in_space(first, count) {
             return Err(NoMemory);
         }
-        if count_free(&self.pages, first, count) > u64::from(self.pages.spare()) {
+        if count - count_mapped(&self.pages, first, count) > u64::from(self.pages.spare()) {
             return Err(NoMemory);
         }
         map_each(&mut self.pages, first, count, rights);
@@ -141,7 +140,7 @@ impl Memory {
     /// Gives each mapped page of the range these rights; its bytes stay (mprotect(2)).
     pub fn protect(&mut self, first: u64, count: u64, rights: Rights)
         ensures after { self.new ≡ protected self.old first count rights }
-        ensures each { IsOnEach (allowed rights) self.old first count self.new }
+        ensures each { IsOnEach (given rights) self.old first count self.new }
     {
         change_each(&mut self.pages, first, count, Change::Protect(rights));
     }

@@ -1,5 +1,7 @@
 // What no clause shows at once: worked runs over several pages, and that there is room where there should be.
 
+ghost use Rattle.std.specs.Prelude.{◌^◌, ◌<◌, length};
+
 use crate::{Memory, Right};
 use std::test::Fail;
 use vm_areas::Rights;
@@ -28,15 +30,42 @@ const NO_RIGHT: Rights = Rights {
     execute: false,
 };
 
+// Reads bytes that may be read.
+fn read(memory: &Memory, at: u64, into: &mut [u8]) -> bool
+    requires { length into.old < 2 ^ 32 }
+{
+    if memory
+        .first_lacking(Right::Read, at, into.len() as u64)
+        .is_some()
+    {
+        return false;
+    }
+    memory.load(at, into);
+    true
+}
+
+// Writes bytes where they may be written.
+fn write(memory: &mut Memory, at: u64, bytes: &[u8]) -> bool
+    requires { length bytes.now < 2 ^ 32 }
+{
+    if memory
+        .first_lacking(Right::Write, at, bytes.len() as u64)
+        .is_some()
+    {
+        return false;
+    }
+    memory.store(at, bytes);
+    true
+}
+
 // Bytes stored over the border of two pages are read back, and the bytes around them stay zeros.
 #[test]
 fn bytes_cross_pages(rt: HostRuntime) -> Result<(), Fail> {
     let mut memory = Memory::make(rt.alloc(), 4)?;
     memory.map(16, 2, READ_WRITE)?;
-    assert!(rt; memory.first_lacking(Right::Write, 0x1_0ffe, 4).is_none());
-    memory.store(0x1_0ffe, &[1, 2, 3, 4]);
+    assert!(rt; write(&mut memory, 0x1_0ffe, &[1, 2, 3, 4]));
     let mut bytes = [9; 6];
-    memory.load(0x1_0ffd, &mut bytes);
+    assert!(rt; read(&memory, 0x1_0ffd, &mut bytes));
     assert_eq!(rt; bytes, [0, 1, 2, 3, 4, 0]);
     Ok(())
 }
@@ -84,14 +113,14 @@ fn a_range_past_the_end_lacks_its_right(rt: HostRuntime) -> Result<(), Fail> {
 fn room_of_a_range(rt: HostRuntime) -> Result<(), Fail> {
     let mut memory = Memory::make(rt.alloc(), 3)?;
     memory.map(16, 2, READ_WRITE)?;
-    memory.store(0x1_1000, &[7]);
+    assert!(rt; write(&mut memory, 0x1_1000, &[7]));
     assert!(rt; memory.map(17, 3, READ).is_err());
     assert_eq!(rt; memory.rights_at(18), None);
     let mut byte = [0];
-    memory.load(0x1_1000, &mut byte);
+    assert!(rt; read(&memory, 0x1_1000, &mut byte));
     assert_eq!(rt; byte, [7]);
     memory.map(16, 3, READ)?;
-    memory.load(0x1_1000, &mut byte);
+    assert!(rt; read(&memory, 0x1_1000, &mut byte));
     assert_eq!(rt; byte, [0]);
     assert!(rt; memory.map(0, 1 << 35, READ).is_err());
     Ok(())
@@ -103,7 +132,7 @@ fn long_ranges(rt: HostRuntime) -> Result<(), Fail> {
     let mut memory = Memory::make(rt.alloc(), 4)?;
     memory.map(100, 2, READ_WRITE)?;
     memory.map(1 << 30, 1, CODE)?;
-    memory.store(0x6_4000, &[1, 2]);
+    assert!(rt; write(&mut memory, 0x6_4000, &[1, 2]));
     assert!(rt; memory.any_executable(0, 1 << 35));
     assert!(rt; !memory.any_executable(0, 1 << 30));
     assert!(rt; !memory.all_free(0, u64::MAX));
@@ -111,11 +140,13 @@ fn long_ranges(rt: HostRuntime) -> Result<(), Fail> {
     assert!(rt; memory.all_mapped(100, 2));
     assert!(rt; !memory.all_mapped(100, 1 << 40));
     memory.protect(0, 1 << 35, NO_RIGHT);
+    assert!(rt; !read(&memory, 0x6_4000, &mut [0]));
     assert_eq!(rt; memory.rights_at(101), Some(NO_RIGHT));
     assert_eq!(rt; memory.rights_at(102), None);
     memory.zero(0, 1 << 35);
+    memory.protect(100, 1, READ);
     let mut bytes = [9; 2];
-    memory.load(0x6_4000, &mut bytes);
+    assert!(rt; read(&memory, 0x6_4000, &mut bytes));
     assert_eq!(rt; bytes, [0, 0]);
     memory.unmap(101, u64::MAX);
     assert!(rt; memory.all_mapped(100, 1));

@@ -1,4 +1,2 @@
 pub mod Program
-pub mod Instructions
-pub mod Registers
 pub mod Plain

@@ -1,13 +1,16 @@
 -- Plain(program, k): the machine after k entries, each the row of its phase.
--- Source: the phases are this project's own; the calls are exit(2) and write(2), and their numbers those of Linux for
--- arm64 (asm-generic/unistd.h).
-use Rattle.std.specs.Prelude.{◌≡◌, ℕ, zero, suc, ◌+◌, ◌-◌, ◌%◌, ◌^◌, ◌<◌, Bool, true, false, ◌==◌, ◌&&◌, nat_le, if◌then◌else◌, List, [], ◌++◌, length, replicate, Option, Some, None, option_and_then}
-use Rattle.plain_machine.specs.Program.{ProgramView, is_inside, bytes_at, word_at}
-use Rattle.plain_machine.specs.Instructions.{instruction}
-use Rattle.plain_machine.specs.Registers.{read, written, moved_on}
-use Rattle.plain_machine.specs.declared.registers.Registers.{Registers}
-use Rattle.plain_machine.specs.declared.instruction.Instruction.{Instruction}
-use Rattle.plain_machine.specs.declared.instruction.Instruction.TheVariants.{Move, Add, Address, Branch, SupervisorCall}
+-- Source: what an instruction does is DDI 0487's, by the definitions of its rows; the phases are this project's own; the
+-- calls are exit(2) and write(2), and their numbers those of Linux for arm64 (asm-generic/unistd.h).
+use Rattle.std.specs.Prelude.{◌≡◌, ℕ, zero, suc, ◌+◌, ◌-◌, ◌%◌, ◌^◌, ◌<◌, Bool, true, false, ◌==◌, ◌&&◌, nat_le, if◌then◌else◌, List, [], ◌++◌, length, replicate, slice_index, slice_set, Option, Some, None, option_and_then, Result, Ok}
+use Rattle.a64_model.specs.Exec.{needed, after, next}
+use Rattle.a64_model.specs.declared.regs.Regs.{Regs}
+use Rattle.a64_model.specs.declared.instr.Instr.{Instr}
+use Rattle.a64_model.specs.declared.access.Access.{Access}
+use Rattle.a64_model.specs.declared.access.Access.TheVariants as access
+use Rattle.a64_model.specs.declared.access.Answer.TheVariants.{Done}
+use Rattle.a64_model.specs.declared.access.Next.{Next}
+use Rattle.a64_model.specs.declared.access.Next.TheVariants.{Go, Call, Trap}
+use Rattle.plain_machine.specs.Program.{ProgramView, is_inside, bytes_at, instruction_at}
 use Rattle.plain_machine.specs.declared.machine.Phase.{Phase}
 use Rattle.plain_machine.specs.declared.machine.Phase.TheVariants.{User, Hold, Fetch, Look, Drop, Return, Leave}
 use Rattle.plain_machine.specs.declared.machine.Piece.{Piece}
@@ -17,7 +20,7 @@ use Rattle.plain_machine.specs.declared.running.RunEnd.TheVariants as ended
 -- the state: the thread's registers and phase, the piece that its call puts out, the call's answer, the bytes put out so
 -- far, and the code with which the guest ended
 pub record State : Type 0 where
-  pub registers : Registers
+  pub registers : Regs
   pub phase : Phase
   pub piece : Piece
   pub answer : ℕ
@@ -27,7 +30,7 @@ pub record State : Type 0 where
 -- the first state: all registers are 0 but for pc, which is the entry
 abbrev pub start : ProgramView → State
 start program = record {
-  registers = record { x = replicate 31 0; pc = program.entry };
+  registers = record { x = replicate 31 0; sp = 0; pc = program.entry; nzcv = 0; tpidr = 0 };
   phase = User;
   piece = record { at = 0; len = 0 };
   answer = 0;
@@ -40,29 +43,44 @@ abbrev pub most_out : ℕ
 most_out = 65536
 
 -- the state with these registers
-abbrev pub with_registers : State → Registers → State
+abbrev pub with_registers : State → Regs → State
 with_registers s registers = record s { registers = registers }
 
--- SVC enters the call that x8 names, with its arguments from x0 on; pc moves on. Call 93 is exit. Call 64 is write, and
--- is built where the low 32 bits of x0 are descriptor 1 and the count x2 fits behind what was put out so far.
+-- what the register x0 to x30 of this number holds
+abbrev pub register : State → ℕ → ℕ
+register s n = slice_index s.registers.x n
+
+-- behind an SVC: the thread enters the call that x8 names, with its arguments from x0 on. Call 93 is exit. Call 64 is
+-- write, and is built where the low 32 bits of x0 are descriptor 1 and the count x2 fits behind what was put out so far.
 abbrev pub entered : State → Option State
 entered s =
-    if read s.registers 8 == 93 then Some (record s { registers = moved_on s.registers 4; phase = Leave })
-    else (if (read s.registers 8 == 64) && ((read s.registers 0 % 2 ^ 32 == 1) && nat_le (length s.out + read s.registers 2) most_out)
-    then Some (record s { registers = moved_on s.registers 4; phase = Hold; piece = record { at = read s.registers 1; len = read s.registers 2 } })
+    if register s 8 == 93 then Some (record s { phase = Leave })
+    else (if (register s 8 == 64) && ((register s 0 % 2 ^ 32 == 1) && nat_le (length s.out + register s 2) most_out)
+    then Some (record s { phase = Hold; piece = record { at = register s 1; len = register s 2 } })
     else None)
 
--- User: what an instruction does
-abbrev pub executed : State → Instruction → Option State
-executed s (Move rd value) = Some (with_registers s (moved_on (written s.registers rd value) 4))
-executed s (Add rd rn value) = Some (with_registers s (moved_on (written s.registers rd ((read s.registers rn + value) % 2 ^ 64)) 4))
-executed s (Address rd offset) = Some (with_registers s (moved_on (written s.registers rd ((s.registers.pc + offset) % 2 ^ 64)) 4))
-executed s (Branch offset) = Some (with_registers s (moved_on s.registers offset))
-executed s SupervisorCall = entered s
+-- behind an instruction, by what comes next: nothing more, or the call; a trap isn't built
+abbrev pub followed : State → Next → Option State
+followed s Go = Some s
+followed s Call = entered s
+followed s (Trap signal code address) = None
+
+-- nothing is asked of memory: there is no access, or the exclusive mark is cleared, of which none ever stands here
+abbrev pub asks_nothing : Result Access Next → Bool
+asks_nothing (Ok access.None) = true
+asks_nothing (Ok access.ClearMark) = true
+asks_nothing _ = false
+
+-- User: what an instruction does that asks nothing of memory, whose answer then is Done; any other isn't built
+abbrev pub executed : State → Instr → Option State
+executed s i =
+    if asks_nothing (needed s.registers i)
+    then followed (with_registers s (after s.registers i Done)) (next s.registers i Done)
+    else None
 
 -- User: the instruction at pc
 abbrev pub user : ProgramView → State → Option State
-user program s = option_and_then (λ word. option_and_then (executed s) (instruction word)) (word_at program s.registers.pc)
+user program s = option_and_then (executed s) (instruction_at program s.registers.pc)
 
 -- Hold: the console stays open. A piece of no bytes has no Fetch.
 abbrev pub held : State → State
@@ -85,11 +103,11 @@ looked program s = record s {
 
 -- Return: the answer is put into x0
 abbrev pub returned : State → State
-returned s = record s { registers = written s.registers 0 s.answer; phase = User }
+returned s = record s { registers = record s.registers { x = slice_set s.registers.x 0 s.answer }; phase = User }
 
 -- Leave: the guest ends with the low 8 bits of its code
 abbrev pub left : State → State
-left s = record s { code = Some (read s.registers 0 % 256) }
+left s = record s { code = Some (register s 0 % 256) }
 
 -- one entry of a guest that hasn't ended, by the thread's phase
 abbrev pub by_phase : ProgramView → State → Phase → Option State

@@ -1,11 +1,14 @@
 // The machine's state and one entry of it.
-ghost use Rattle.std.specs.Prelude.{◌≡◌, ◌≤◌, ◌+◌, ◌%◌, ◌^◌, ◌++◌, length, IfOk, OnOk, OnErr, IsOk, Some, None};
-ghost use Rattle.plain_machine.specs.Plain.{start, entered, executed, user, held, fetched, looked, returned, left, Steps, TriesTo};
-ghost use Rattle.plain_machine.specs.Program.{bytes_at};
+ghost use Rattle.std.specs.Prelude.{◌≡◌, IfOk};
+ghost use Rattle.a64_model.specs.Exec.{needed};
+ghost use Rattle.a64_model.specs.Widths.{HasWidths};
+ghost use Rattle.plain_machine.specs.Plain.{start, asks_nothing, executed, user, held, fetched, looked, returned, left, Steps, TriesTo};
 
-use crate::instruction::{Instruction, decode};
 use crate::program::Program;
-use crate::registers::Registers;
+use a64_model::access::{Access, Answer};
+use a64_model::instr::Instr;
+use a64_model::regs::Regs;
+use a64_step::{finish, need};
 use std::alloc::{AllocError, Global};
 use std::marker::Model;
 
@@ -54,7 +57,7 @@ const NO_PIECE: Piece = Piece { at: 0, len: 0 };
 /// The parts of the machine that change.
 #[derive(Drop)]
 pub struct Machine {
-    registers: Registers,
+    registers: Regs,
     phase: Phase,
     piece: Piece,
     answer: u64,
@@ -83,7 +86,13 @@ impl Machine {
             return Err(NoMemory);
         };
         Ok(Machine {
-            registers: Registers::new(program.entry()),
+            registers: Regs {
+                x: [0; 31],
+                sp: 0,
+                pc: program.entry(),
+                nzcv: 0,
+                tpidr: 0,
+            },
             phase: Phase::User,
             piece: NO_PIECE,
             answer: 0,
@@ -113,59 +122,55 @@ impl Machine {
         self.registers.pc
     }
 
-    // SVC: whether the call is built.
+    // SVC: enters the call that x8 names, where it is built.
     fn enter(&mut self) -> bool
-        ensures { TriesTo (entered self.old) self.old result self.new }
+        ensures { TriesTo (executed self.old Instr.SupervisorCall) self.old result self.new }
     {
         let (console, at, count) = (
-            self.registers.get(0),
-            self.registers.get(1),
-            self.registers.get(2),
+            self.registers.x[0],
+            self.registers.x[1],
+            self.registers.x[2],
         );
         let room = (ROOM - self.out.len()) as u64;
-        match self.registers.get(8) {
-            CALL_EXIT => {
-                self.registers.move_on(4);
-                self.phase = Phase::Leave;
-                true
-            }
+        let (phase, piece) = match self.registers.x[8] {
+            CALL_EXIT => (Phase::Leave, self.piece),
             CALL_WRITE if console & 0xFFFF_FFFF == 1 && count <= room => {
-                self.registers.move_on(4);
-                self.phase = Phase::Hold;
-                self.piece = Piece { at, len: count };
-                true
+                (Phase::Hold, Piece { at, len: count })
             }
-            _ => false,
-        }
+            _ => return false,
+        };
+        finish(&mut self.registers, Instr::SupervisorCall, Answer::Done);
+        self.phase = phase;
+        self.piece = piece;
+        true
     }
 
-    // User: what an instruction does, where its call is built.
-    fn execute(&mut self, instruction: Instruction) -> bool
+    // Whether an instruction asks nothing of memory.
+    fn asks_nothing(&self, instruction: Instr) -> bool
+        requires { HasWidths instruction }
+        ensures { result ≡ asks_nothing (needed self.now.registers instruction) }
+    {
+        matches!(
+            need(&self.registers, instruction),
+            Ok(Access::None | Access::ClearMark)
+        )
+    }
+
+    // User: what an instruction does, where that is built.
+    fn execute(&mut self, instruction: Instr) -> bool
+        requires { HasWidths instruction }
         ensures { TriesTo (executed self.old instruction) self.old result self.new }
     {
+        if !self.asks_nothing(instruction) {
+            return false;
+        }
         match instruction {
-            Instruction::Move { rd, value } => {
-                self.registers.set(rd, value);
-                self.registers.move_on(4);
+            Instr::SupervisorCall => self.enter(),
+            Instr::Breakpoint => false,
+            _ => {
+                finish(&mut self.registers, instruction, Answer::Done);
                 true
             }
-            Instruction::Add { rd, rn, value } => {
-                let sum = self.registers.get(rn).wrapping_add(value);
-                self.registers.set(rd, sum);
-                self.registers.move_on(4);
-                true
-            }
-            Instruction::Address { rd, offset } => {
-                let address = self.registers.pc.wrapping_add(offset);
-                self.registers.set(rd, address);
-                self.registers.move_on(4);
-                true
-            }
-            Instruction::Branch { offset } => {
-                self.registers.move_on(offset);
-                true
-            }
-            Instruction::SupervisorCall => self.enter(),
         }
     }
 
@@ -173,10 +178,7 @@ impl Machine {
     fn run_user(&mut self, program: &Program) -> bool
         ensures { TriesTo (user program.now self.old) self.old result self.new }
     {
-        let Some(word) = program.word_at(self.registers.pc) else {
-            return false;
-        };
-        let Some(instruction) = decode(word) else {
+        let Some(instruction) = program.instruction_at(self.registers.pc) else {
             return false;
         };
         self.execute(instruction)
@@ -221,7 +223,7 @@ impl Machine {
     fn put_answer(&mut self)
         ensures { self.new ≡ returned self.old }
     {
-        self.registers.set(0, self.answer);
+        self.registers.x[0] = self.answer;
         self.phase = Phase::User;
     }
 
@@ -229,7 +231,7 @@ impl Machine {
     fn leave(&mut self)
         ensures { self.new ≡ left self.old }
     {
-        self.code = Some((self.registers.get(0) % 256) as u8);
+        self.code = Some((self.registers.x[0] % 256) as u8);
     }
 
     /// One entry, or false where the guest has ended or what stands at pc isn't built.

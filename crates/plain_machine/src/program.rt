@@ -2,6 +2,8 @@
 ghost use Rattle.std.specs.Prelude.{IfSome, Some, None, if◌then◌else◌, ◌≡◌, ◌≤◌, ◌<◌, ◌+◌, ◌-◌, ◌^◌, slice_index, length, take, drop, ◌++◌, replicate};
 ghost use Rattle.std.specs.Vec.{vec_capacity};
 
+use a64_decode::decode;
+use a64_model::instr::Instr;
 use std::marker::Model;
 
 /// What runs: a segment of code and data, and the address at which it begins.
@@ -41,7 +43,8 @@ fn pad(out: &mut Vec<u8>, len: usize)
 }
 
 impl Program {
-    ghost use Rattle.plain_machine.specs.Program.{is_inside, word_at, bytes_at};
+    ghost use Rattle.a64_model.specs.Widths.{HasWidths};
+    ghost use Rattle.plain_machine.specs.Program.{is_inside, word_at, instruction_at, bytes_at};
 
     /// The program that begins at the address `entry`, with its segment at the address `at`, of `size`
     /// bytes in memory: `bytes` and zeros behind them.
@@ -102,6 +105,19 @@ impl Program {
             self.byte(distance + 3),
         ];
         Some(u32::from_le_bytes(bytes))
+    }
+
+    /// The instruction at an address, or none where the address isn't a multiple of 4, isn't in the
+    /// segment, or has a word that fits no row.
+    pub fn instruction_at(&self, address: u64) -> Option<Instr>
+        ensures row { result ≡ instruction_at self.now address }
+        ensures widths { IfSome result HasWidths }
+    {
+        if address % 4 == 0 {
+            decode(self.word_at(address)?)
+        } else {
+            None
+        }
     }
 
     // The part of a range that the file has.

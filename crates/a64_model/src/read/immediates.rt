@@ -1,6 +1,6 @@
 //! Data processing with immediates.
 ghost use Rattle.std.specs.Prelude.{◌≡◌, ◌*◌, ◌^◌, ◌<◌, ◌≤◌, IsTrue, IfSome};
-ghost use Rattle.a64_model.specs.BitMasks.{element_log, element_size, is_pattern};
+ghost use Rattle.a64_model.specs.BitMasks.{is_pattern};
 ghost use Rattle.a64_model.specs.Immediates.{pc_relative, add_immediate, logical_immediate, move_wide_op, move_wide, bitfield_op, bitfield, extract};
 ghost use Rattle.a64_model.specs.Widths.{HasWidths};
 
@@ -37,39 +37,18 @@ pub fn add_immediate(word: u32) -> Option<Instr>
     }))
 }
 
-/// The binary logarithm of the size of the elements that a logical immediate repeats.
-fn element_log(n: u32, imms: u32) -> u32
-    requires bit { n < 2 }
-    requires six_bits { imms < 64 }
-    ensures value { result ≡ element_log n imms }
-    ensures small { result ≤ 6 }
-{
-    31u32.saturating_sub((n * 64 + (63 - imms)).leading_zeros())
-}
-
-/// The number of bits of those elements.
-pub fn element_size(n: u32, imms: u32) -> u32
-    requires bit { n < 2 }
-    requires six_bits { imms < 64 }
-    ensures value { result ≡ element_size n imms }
-    ensures in_word { result ≤ 64 }
-    ensures some { 1 ≤ element_log n imms → 1 < result }
-{
-    1 << element_log(n, imms)
-}
-
-/// Whether N and imms are those of a pattern.
+/// Whether N and imms are those of a pattern. The highest bit set in N followed by the complement of imms tells the size
+/// of the element, and another one that not all bits of the element are ones: so two at least are set.
 fn is_pattern(width: Width, n: u32, imms: u32) -> bool
     requires bit { n < 2 }
     requires six_bits { imms < 64 }
     ensures { result ≡ is_pattern width n imms }
 {
-    let size = element_size(n, imms);
     let may_have = match width {
         Width::W => n == 0,
         Width::X => true,
     };
-    may_have && 1 <= element_log(n, imms) && imms % size != size - 1
+    may_have && 2 <= (n * 64 + (63 - imms)).count_ones()
 }
 
 pub fn logical_immediate(word: u32) -> Option<Instr>

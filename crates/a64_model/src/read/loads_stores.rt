@@ -1,5 +1,6 @@
 //! Loads and stores.
 ghost use Rattle.std.specs.Prelude.{◌≡◌, ◌<◌, ◌≤◌, ◌^◌, IsTrue, IfSome};
+ghost use Rattle.std.specs.Option.{is_some};
 ghost use Rattle.a64_model.specs.LoadsStores.{is_offset, transfer, may_write_back, load_store_unsigned, load_store_indexed, load_store_register, literal_kind, load_literal, pair_kind, may_pair, load_store_pair, may_take_status, store_exclusive, load_exclusive, store_ordered, load_ordered, compare_swap, atomic};
 ghost use Rattle.a64_model.specs.Widths.{HasWidths, may_transfer, is_pair_kind, is_wide_extend};
 
@@ -18,29 +19,33 @@ fn is_offset(indexing: Indexing) -> bool
     matches!(indexing, Indexing::Offset)
 }
 
+/// Whether a size has an access with this opc, in a form that has prefetches or has not. All parts are computed, without
+/// a branch on opc, which a processor would often predict wrongly from word to word.
+fn has_opc(size: Size, opc: u32, prefetches: bool) -> bool
+    ensures { result ≡ is_some (transfer size opc prefetches) }
+{
+    let is_double = matches!(size, Size::Double);
+    let is_narrow = matches!(size, Size::Byte | Size::Half);
+    (opc < 2) | ((opc == 2) & (prefetches | !is_double)) | ((2 < opc) & is_narrow)
+}
+
 /// What opc does at a size, in a form that has prefetches or has not.
 fn transfer(size: Size, opc: u32, prefetches: bool) -> Option<Transfer>
     ensures value { result ≡ transfer size opc prefetches }
     ensures can { IfSome result (λ t. IsTrue (may_transfer size t prefetches)) }
 {
-    match opc {
-        0 => Some(Transfer::Store),
-        1 => Some(Transfer::Load),
-        2 => match size {
-            Size::Double => {
-                if prefetches {
-                    Some(Transfer::Prefetch)
-                } else {
-                    None
-                }
-            }
-            _ => Some(Transfer::LoadSigned64),
-        },
-        _ => match size {
-            Size::Byte | Size::Half => Some(Transfer::LoadSigned32),
-            _ => None,
-        },
+    if !has_opc(size, opc, prefetches) {
+        return None;
     }
+    if (opc == 2) & matches!(size, Size::Double) {
+        return Some(Transfer::Prefetch);
+    }
+    Some(match opc {
+        0 => Transfer::Store,
+        1 => Transfer::Load,
+        2 => Transfer::LoadSigned64,
+        _ => Transfer::LoadSigned32,
+    })
 }
 
 /// Whether the base, if it is written back, is the stack pointer or no register that is moved.

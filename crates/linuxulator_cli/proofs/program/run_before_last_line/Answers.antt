@@ -1,6 +1,5 @@
 -- The run, and all that it put out taken.
-use Rattle.std.proofs.Common.{rules, arith}
-use Rattle.std.proofs.lemmas.Grind.{common_steps}
+use Rattle.std.proofs.Common.{rules}
 use Rattle.linuxulator_cli.proofs.Runs.{cause_of_run}
 use Rattle.linuxulator_cli.proofs.program.run_before_last_line.Goals as goal
 

@@ -1,7 +1,7 @@
 use Rattle.std.proofs.Common.{◌≡◌, ◌*◌, ◌%◌, ◌^◌, ◌≤◌, arith}
 use Rattle.std.proofs.lemmas.Nat.{one_shl}
 use Rattle.std.proofs.Math.Pow.{pow_mono}
-use Rattle.a64_model.proofs.read.immediates.element_size.Goals as goal
+use Rattle.a64_alu.proofs.patterns.element_size.Goals as goal
 
 pub returns-clause-in_word : goal.returns-clause-in_word
 returns-clause-in_word c =

@@ -1,6 +1,6 @@
 use Rattle.std.proofs.Common.{◌+◌, ◌-◌, ◌*◌, ◌<◌, arith}
-use Rattle.a64_model.proofs.Highest.{highest_set_bit-le}
-use Rattle.a64_model.proofs.read.immediates.element_log.Goals as goal
+use Rattle.a64_alu.proofs.Highest.{highest_set_bit-le}
+use Rattle.a64_alu.proofs.patterns.element_log.Goals as goal
 
 pub returns-clause-small : goal.returns-clause-small
 returns-clause-small c =
