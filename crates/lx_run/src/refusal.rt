@@ -9,9 +9,12 @@ pub enum LxRefusal {
 }
 
 impl From<NoMemory> for LxRefusal {
-    fn from(_: NoMemory) -> LxRefusal
-        ensures { result ≡ LxRefusal.NoMemory }
-    {
+    ghost use Rattle.std.specs.Prelude.{◌≡◌};
+    ghost use Rattle.lx_run.specs.declared.refusal.LxRefusal.TheVariants.{NoMemory};
+
+    ghost from_gives = { λ _ e. e ≡ NoMemory };
+
+    fn from(_: NoMemory) -> LxRefusal {
         LxRefusal::NoMemory
     }
 }
