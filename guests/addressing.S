@@ -53,8 +53,8 @@ _start: adrp    x19, numbers
         sub     x22, x21, x19
         show    x22
         mov     x22, #0x55
-        strb    w22, [sp, #-1]!
-        ldrb    w20, [sp], #1
+        strb    w22, [sp, #-16]!
+        ldrb    w20, [sp], #16
         show    x20
 
         text_line "a register as offset"
