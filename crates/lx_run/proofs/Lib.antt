@@ -1,4 +1,5 @@
 pub mod Answering
 pub mod Exchanged
 pub mod Filled
+pub mod Instructed
 pub mod Small
