@@ -1,5 +1,5 @@
 -- What an atomic access leaves, from what it reads and what it stores.
-use Rattle.std.proofs.Common.{◌≡◌, ℕ, ◌%◌, Some, None, Option, Result, Ok, Err, MatchOption, true, List, if◌then◌else◌, refl, sym, ap, ◌∙◌}
+use Rattle.std.proofs.Common.{◌≡◌, ℕ, ◌%◌, Some, None, Option, Result, Ok, Err, MatchOption, true, List, if◌then◌else◌, ap, ◌∙◌}
 use Rattle.places.specs.Places.{number_at, bytes_of}
 use Rattle.a64_model.specs.declared.access.Fault.{Fault}
 use Rattle.a64_model.specs.declared.access.SwapOp.{SwapOp}

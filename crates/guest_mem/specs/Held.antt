@@ -1,10 +1,10 @@
 -- What a shard holds, and what its calls do to that.
-use Rattle.std.specs.Prelude.{◌≡◌, ℕ, ◌+◌, ◌-◌, ◌%◌, ◌<◌, ◌≤◌, ◌⊎◌, true, false, List, length, replicate, Option, Some, None, slice_set, refl, if◌then◌else◌}
+use Rattle.std.specs.Prelude.{◌≡◌, ℕ, ◌+◌, ◌-◌, ◌%◌, ◌<◌, ◌≤◌, true, false, List, length, replicate, Option, Some, None, slice_set, refl, if◌then◌else◌}
 use Rattle.std.specs.FinMap as map
 use Rattle.std.specs.Coded.{Coded, code_by, coded×, coded_ℕ, coded_list, coded_option}
 use Rattle.places.specs.Places as place
 use Rattle.vm_areas.specs.declared.runs.Rights.{Rights}
-use Rattle.page_store.specs.Pages.{Page, Pages, Keeping, has_any, changed, with_rights, blanked, written, with_added, without, blank, coded_pages}
+use Rattle.page_store.specs.Pages.{Pages, has_any, changed, with_rights, blanked, written, without, blank, coded_pages}
 use Rattle.guest_mem.specs.MarkRules.{marks_after, marks_off}
 
 -- which of the 16 shards it is, the kept pages, the marked granule of each slot, and how many more pages

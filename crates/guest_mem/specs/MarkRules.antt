@@ -1,6 +1,6 @@
 -- The exclusive marks of the slots: one granule or none for each.
 -- Source: the local exclusive monitor, Arm ARM (DDI 0487), B2.9.
-use Rattle.std.specs.Prelude.{◌≡◌, ℕ, ◌+◌, ◌/◌, ◌≤◌, ◌==◌, ◌&&◌, nat_le, List, map, slice_index_or, slice_set, Option, Some, None, if◌then◌else◌}
+use Rattle.std.specs.Prelude.{◌≡◌, ℕ, ◌/◌, ◌≤◌, ◌==◌, ◌&&◌, nat_le, List, map, slice_index_or, slice_set, Option, Some, None, if◌then◌else◌}
 
 -- a write to the granules from first to last ends a mark on one of them
 abbrev pub mark_after : ℕ → ℕ → Option ℕ → Option ℕ

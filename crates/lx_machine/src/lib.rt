@@ -8,6 +8,7 @@ pub mod buffer;
 pub mod calls;
 pub mod files;
 pub mod label;
+pub mod memory;
 pub mod signals;
 pub mod step;
 pub mod threads;

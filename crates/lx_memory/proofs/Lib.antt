@@ -1,0 +1,5 @@
+pub mod OnEach
+pub mod Changes
+pub mod Stored
+pub mod Highest
+pub mod PastSpace

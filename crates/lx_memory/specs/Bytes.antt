@@ -1,6 +1,6 @@
 -- The bytes of a range of addresses, and what a store leaves.
 -- Source: this project's own: memory is a byte at each address of a mapped page, whatever the page's rights.
-use Rattle.std.specs.Prelude.{◌≡◌, ℕ, zero, suc, ◌+◌, ◌%◌, ◌<◌, ◌≤◌, List, [], ◌∷◌, Option, Some, None, IsSome, slice_index, slice_set}
+use Rattle.std.specs.Prelude.{ℕ, zero, suc, ◌+◌, ◌%◌, ◌<◌, ◌≤◌, List, [], ◌∷◌, Option, Some, None, IsSome, slice_index, slice_set}
 use Rattle.std.specs.FinMap as map
 use Rattle.places.specs.Places.{page}
 use Rattle.page_store.specs.Pages.{Page, Pages, changed}

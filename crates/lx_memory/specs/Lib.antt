@@ -2,3 +2,5 @@ pub mod Access
 pub mod Bytes
 pub mod Ranges
 pub mod Gaps
+pub mod Space
+pub mod MemoryFields

@@ -15,8 +15,8 @@ abbrev pub away : Option Page → Option Page
 away _ = None
 
 -- the page with these rights, if it is mapped (mprotect(2))
-abbrev pub allowed : Rights → Option Page → Option Page
-allowed rights old = option_map (with_rights rights) old
+abbrev pub given : Rights → Option Page → Option Page
+given rights old = option_map (with_rights rights) old
 
 -- the page as zeros with its rights, if it is mapped (madvise(2), MADV_DONTNEED)
 abbrev pub cleared : Option Page → Option Page
@@ -46,7 +46,7 @@ unmapped pages first count = on_each away pages first count
 
 -- each mapped page of the range has these rights; its bytes stay
 abbrev pub protected : Pages → ℕ → ℕ → Rights → Pages
-protected pages first count rights = on_each (allowed rights) pages first count
+protected pages first count rights = on_each (given rights) pages first count
 
 -- each mapped page of the range is zeros; its rights stay
 abbrev pub zeroed : Pages → ℕ → ℕ → Pages

@@ -1,5 +1,5 @@
 -- Pages of which one is changed.
-use Rattle.std.proofs.Common.{◌≡◌, ℕ, Some, None, Option, is_some, true, false, refl, sym, ap, ◌∙◌, arith}
+use Rattle.std.proofs.Common.{◌≡◌, ℕ, Some, None, Option, is_some, true, refl, ap, ◌∙◌}
 use Rattle.std.specs.FinMap as finite
 use Rattle.sorted_entries.proofs.Entries.{get_inserted, insert_twice}
 use Rattle.vm_areas.specs.declared.runs.Rights.{Rights}

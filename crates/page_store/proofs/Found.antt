@@ -1,5 +1,5 @@
 -- What a store's fields say of a page.
-use Rattle.std.proofs.Common.{◌≡◌, ◌≢◌, ℕ, zero, suc, ◌+◌, ◌-◌, ◌*◌, ◌/◌, ◌%◌, ◌<◌, ◌≤◌, List, [], ◌∷◌, length, get_or, set, Some, None, Option, Bool, true, false, not, IsSome, if◌then◌else◌, refl, sym, ap, ◌∙◌, arith, inl, inr}
+use Rattle.std.proofs.Common.{◌≡◌, ◌≢◌, ℕ, zero, suc, ◌<◌, ◌≤◌, List, [], ◌∷◌, length, get_or, set, Some, None, Option, Bool, true, false, not, IsSome, if◌then◌else◌, refl, sym, ap, ◌∙◌, arith, inl, inr}
 use Rattle.std.specs.FinMap as finite
 use Rattle.std.specs.List.{insert, remove}
 use Rattle.std.proofs.lemmas.Bool.{cases_lt}
@@ -8,7 +8,7 @@ use Rattle.sorted_entries.specs.Entries.{IsRising, IsAt, IsGapFor, entries_of}
 use Rattle.sorted_entries.proofs.Entries.{get_at, get_in_gap, map_of-set, map_of-insert, map_of-remove, map_of-revalued, IsRevalued}
 use Rattle.page_store.specs.declared.page_store.Kept.{Kept}
 use Rattle.page_store.specs.Pages.{Page, page_if}
-use Rattle.page_store.specs.Frames.{one_if, times, AgreeBut}
+use Rattle.page_store.specs.Frames.{times, AgreeBut}
 use Rattle.page_store.specs.Kept.{number_of, frame_of, page_in, pages_of}
 use Rattle.page_store.proofs.Owned.{one_if-same, one_if-zero, times-at}
 

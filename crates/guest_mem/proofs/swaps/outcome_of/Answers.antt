@@ -1,4 +1,4 @@
-use Rattle.std.proofs.Common.{◌<◌, ◌^◌, sym, arith, bit_and, bit_or, bit_xor}
+use Rattle.std.proofs.Common.{◌<◌, ◌^◌, sym, arith, bit_and, bit_xor}
 use Rattle.std.proofs.Math.Nat.{mod-eq_of_lt}
 use Rattle.std.proofs.lemmas.Nat.{xor_lt, or_lt, and_le_l}
 use Rattle.guest_mem.proofs.swaps.outcome_of.Goals as goal

@@ -1,4 +1,4 @@
-use Rattle.std.proofs.Common.{◌≡◌, ◌<◌, ◌⊎◌, inl, inr, arith, sym, ◌∙◌}
+use Rattle.std.proofs.Common.{◌<◌, ◌⊎◌, inl, inr, arith, sym}
 use Rattle.guest_mem.proofs.MarkSpan.{marks_stay, within-map, within-set}
 use Rattle.guest_mem.proofs.marks.Marks.end_others.Goals as goal
 use Rattle.guest_mem.proofs.marks.Marks.end_others.Goals.{then-last-self-via-then-last-self, then-last-self-via-else-last-self+then-self-first}

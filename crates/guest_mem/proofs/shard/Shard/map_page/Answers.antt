@@ -1,4 +1,4 @@
-use Rattle.std.proofs.Common.{◌≡◌, ◌-◌, true, false, sym, ap, ◌∙◌, if◌then◌else◌}
+use Rattle.std.proofs.Common.{◌≡◌, ◌-◌, true, sym, ap, ◌∙◌, if◌then◌else◌}
 use Rattle.std.specs.FinMap as finite
 use Rattle.page_store.specs.Pages.{has_any, changed, blanked, blank}
 use Rattle.page_store.proofs.Changed.{renewed}

@@ -1,4 +1,4 @@
-use Rattle.std.proofs.Common.{◌≡◌, ℕ, ◌≤◌, ◌%◌, ◌^◌, take, true, sym, ap, ◌∙◌, arith}
+use Rattle.std.proofs.Common.{◌≡◌, ℕ, ◌≤◌, take, true, sym, ap, ◌∙◌, arith}
 use Rattle.places.specs.Places.{bytes_of}
 use Rattle.places.proofs.Numbers.{take-bytes_of, bytes_of-mod}
 use Rattle.page_store.specs.Pages.{page_for, writes}

@@ -1,11 +1,9 @@
-use Rattle.std.proofs.Common.{◌≡◌, ◌+◌, ◌-◌, arith, refl, None, true, false, sym, ap, ◌∙◌, get_or, []}
+use Rattle.std.proofs.Common.{◌≡◌, ◌-◌, arith, refl, None, true, ap, ◌∙◌, get_or, []}
 use Rattle.std.specs.FinMap as finite
-use Rattle.std.specs.List.{insert}
 use Rattle.std.proofs.lemmas.Bool.Decides.{nat_tests}
 use Rattle.sorted_entries.specs.Entries.{IsAt, IsGapFor}
 use Rattle.sorted_entries.proofs.Entries.{rising-insert}
 use Rattle.page_store.specs.declared.page_store.Kept.{Kept}
-use Rattle.page_store.specs.Pages.{blank}
 use Rattle.page_store.specs.Frames.{times}
 use Rattle.page_store.specs.Kept.{number_of, frame_of, pages_of}
 use Rattle.page_store.proofs.Owned.{times-insert, one_below-most, one_if-same}

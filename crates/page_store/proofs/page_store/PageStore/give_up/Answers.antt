@@ -2,7 +2,7 @@ use Rattle.std.proofs.Common.{◌≡◌, ◌+◌, arith, refl, None, true, sym, 
 use Rattle.std.specs.FinMap as finite
 use Rattle.sorted_entries.specs.Entries.{IsAt}
 use Rattle.sorted_entries.proofs.Entries.{remove_absent, rising-remove}
-use Rattle.page_store.specs.Frames.{itself, times, one_if}
+use Rattle.page_store.specs.Frames.{itself, one_if}
 use Rattle.page_store.specs.Kept.{number_of, frame_of, pages_of}
 use Rattle.page_store.proofs.Owned.{times-remove, times-push}
 use Rattle.page_store.proofs.Found.{page_missing, is_kept, pages_of-remove}

@@ -1,16 +1,10 @@
-use Rattle.std.proofs.Common.{◌≡◌, ◌≢◌, ◌<◌, ◌≤◌, ◌+◌, ◌-◌, ◌/◌, ◌%◌, arith, refl, Some, None, Ok, true, sym, ap, ◌∙◌, length, get_or, drop, slice_range, []}
+use Rattle.std.proofs.Common.{◌≡◌, ◌<◌, ◌+◌, ◌/◌, ◌%◌, arith, refl, Some, None, ap, ◌∙◌, length, get_or, slice_range, []}
 use Rattle.std.specs.FinMap as finite
-use Rattle.std.proofs.lemmas.List.{get_or_default, get_or-set_same, get_or-set_other}
+use Rattle.std.proofs.lemmas.List.{get_or_default}
 use Rattle.sorted_entries.specs.Entries.{IsAt}
-use Rattle.byteorder.specs.Numbers.{little_from-take}
-use Rattle.places.specs.Places.{number_at}
-use Rattle.page_store.specs.declared.page_store.Kept.{Kept}
-use Rattle.page_store.specs.Pages.{Page, reads, spliced, written, changed}
-use Rattle.page_store.specs.Frames.{times, AgreeBut}
-use Rattle.page_store.specs.Kept.{number_of, frame_of, page_in, pages_of}
+use Rattle.page_store.specs.Kept.{number_of, page_in, pages_of}
 use Rattle.page_store.proofs.Owned.{owned}
-use Rattle.page_store.proofs.Changed.{changed_kept}
-use Rattle.page_store.proofs.Found.{page_there, page_missing, page_if_allowed, page_if_refused, pages_of-frame, not_true, not_false}
+use Rattle.page_store.proofs.Found.{page_there, page_missing}
 use Rattle.page_store.proofs.page_store.PageStore.peek.Goals as goal
 
 -- the page is not kept

@@ -1,8 +1,8 @@
-use Rattle.std.proofs.Common.{◌≡◌, ◌<◌, ◌+◌, ◌/◌, ◌%◌, arith, refl, Some, None, true, IfSome, sym, ap, ◌∙◌, length, get_or, set, []}
+use Rattle.std.proofs.Common.{◌≡◌, ◌<◌, ◌/◌, ◌%◌, arith, refl, Some, None, sym, ap, ◌∙◌, length, get_or, set, []}
 use Rattle.std.specs.FinMap as finite
 use Rattle.std.proofs.lemmas.List.{get_or_default, get_or-set_same, get_or-set_other}
 use Rattle.sorted_entries.specs.Entries.{IsAt}
-use Rattle.page_store.specs.Pages.{Page, spliced, written, changed}
+use Rattle.page_store.specs.Pages.{spliced, written, changed}
 use Rattle.page_store.specs.Frames.{AgreeBut}
 use Rattle.page_store.specs.Kept.{number_of, page_in, pages_of}
 use Rattle.page_store.proofs.Owned.{owned}

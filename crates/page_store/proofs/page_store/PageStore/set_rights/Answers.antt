@@ -1,4 +1,4 @@
-use Rattle.std.proofs.Common.{◌≡◌, arith, refl, Some, None, true, sym, ap, ◌∙◌, set}
+use Rattle.std.proofs.Common.{◌≡◌, refl, Some, None, sym, ap, ◌∙◌, set}
 use Rattle.std.specs.FinMap as finite
 use Rattle.std.proofs.lemmas.List.{get_or_default}
 use Rattle.sorted_entries.specs.Entries.{IsAt}

@@ -1,13 +1,10 @@
-use Rattle.std.proofs.Common.{◌≡◌, ◌≢◌, ◌<◌, ◌≤◌, ◌+◌, ◌-◌, ◌/◌, ◌%◌, arith, refl, Some, None, Ok, true, sym, ap, ◌∙◌, length, get_or, set, drop, slice_range, []}
+use Rattle.std.proofs.Common.{◌≡◌, ◌<◌, ◌/◌, ◌%◌, arith, refl, Some, None, sym, ap, ◌∙◌, length, get_or, set, []}
 use Rattle.std.specs.FinMap as finite
 use Rattle.std.proofs.lemmas.List.{get_or_default, get_or-set_same, get_or-set_other}
 use Rattle.sorted_entries.specs.Entries.{IsAt}
-use Rattle.byteorder.specs.Numbers.{little_from-take}
-use Rattle.places.specs.Places.{number_at}
-use Rattle.page_store.specs.declared.page_store.Kept.{Kept}
-use Rattle.page_store.specs.Pages.{Page, writes, spliced, written, changed}
-use Rattle.page_store.specs.Frames.{times, AgreeBut}
-use Rattle.page_store.specs.Kept.{number_of, frame_of, page_in, pages_of}
+use Rattle.page_store.specs.Pages.{writes, spliced, written, changed}
+use Rattle.page_store.specs.Frames.{AgreeBut}
+use Rattle.page_store.specs.Kept.{number_of, page_in, pages_of}
 use Rattle.page_store.proofs.Owned.{owned}
 use Rattle.page_store.proofs.Changed.{changed_kept}
 use Rattle.page_store.proofs.Found.{page_there, page_missing, page_if_allowed, page_if_refused, pages_of-frame, not_true, not_false}

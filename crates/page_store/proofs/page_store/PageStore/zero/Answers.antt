@@ -1,4 +1,4 @@
-use Rattle.std.proofs.Common.{◌≡◌, ◌<◌, arith, refl, Some, None, true, sym, ap, ◌∙◌, set, get_or, length, []}
+use Rattle.std.proofs.Common.{◌≡◌, ◌<◌, arith, refl, Some, None, sym, ◌∙◌, set, get_or, length, []}
 use Rattle.std.specs.FinMap as finite
 use Rattle.std.proofs.lemmas.List.{get_or-set_same, get_or-set_other}
 use Rattle.sorted_entries.specs.Entries.{IsAt}

@@ -1,0 +1,6 @@
+use Rattle.lx_memory.specs.Ranges.{given}
+use Rattle.lx_memory.proofs.OnEach.{each-is}
+use Rattle.lx_memory.proofs.memory.Memory.protect.Goals as goal
+
+pub returns-clause-after : goal.returns-clause-after
+returns-clause-after c = rw (← c.self.view_is) (each-is (given c.args.rights) c.self.inside.pages.pages c.args.first c.args.count _ c.change_each.ensures)
