@@ -10,7 +10,7 @@ use Rattle.vm_areas.specs.declared.runs.Rights.{Rights}
 use Rattle.lx_memory.specs.Ranges.{mapped, unmapped, protected, zeroed}
 use Rattle.lx_machine.specs.Memory.{all_mapped, all_free, any_executable, highest_gap}
 use Rattle.lx_machine.specs.Calls.{argument, low_argument, answered, refused}
-use Rattle.lx_machine.specs.State.{Space}
+use Rattle.lx_machine.specs.declared.space.Space.{Space}
 use Rattle.lx_machine.specs.declared.calls.LxCall.{LxCall}
 use Rattle.lx_calls.specs.Entry.{pages_of, is_fixed}
 

@@ -6,7 +6,7 @@ use Rattle.linux_abi.specs.declared.calls.Call.{Call}
 use Rattle.linux_abi.specs.declared.calls.Call.TheVariants as call
 use Rattle.lx_machine.specs.Lists.{bind}
 use Rattle.lx_machine.specs.Calls.{answered}
-use Rattle.lx_machine.specs.State.{LinuxState, Space}
+use Rattle.lx_machine.specs.State.{LinuxState}
 use Rattle.lx_machine.specs.declared.files.Files.{Files}
 use Rattle.lx_machine.specs.Threads.{in_call_of, after_write}
 use Rattle.lx_machine.specs.Step.{Effects, LStep, LRun}

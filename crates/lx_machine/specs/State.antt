@@ -1,18 +1,12 @@
 -- LinuxState: the state of the Linux machine.
 use Rattle.std.specs.Prelude.{ℕ, List, Option}
-use Rattle.page_store.specs.Pages.{Pages}
+use Rattle.lx_machine.specs.declared.space.Space.{Space}
 use Rattle.lx_machine.specs.declared.threads.LxThread.{LxThread}
 use Rattle.lx_machine.specs.declared.threads.LxWaiter.{LxWaiter}
 use Rattle.lx_machine.specs.declared.threads.GuestEnd.{GuestEnd}
 use Rattle.lx_machine.specs.declared.files.Files.{Files}
 use Rattle.lx_machine.specs.declared.signals.Action.{Action}
 use Rattle.lx_machine.specs.declared.signals.SigInfo.{SigInfo}
-
--- memory: the mapped pages, the break, and where it began (brk(2))
-pub record Space : Type 0 where
-  pub pages : Pages
-  pub break_at : ℕ
-  pub break_start : ℕ
 
 -- the state: 32 places for threads, memory, the one futex queue in order of queueing, files, the actions of signals 1 to
 -- 64, the pending signals of the process, the clock in microseconds, the next tid, and the end once the guest has ended

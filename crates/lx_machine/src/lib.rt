@@ -10,5 +10,6 @@ pub mod files;
 pub mod label;
 pub mod memory;
 pub mod signals;
+pub mod space;
 pub mod step;
 pub mod threads;

@@ -1,5 +1,5 @@
 //! How instructions and calls look at memory (mmap(2), mprotect(2)).
-ghost use Rattle.std.specs.Prelude.{◌≡◌, None};
+ghost use Rattle.std.specs.Prelude.{◌≡◌, ◌+◌, ◌≤◌, None, IfSome};
 ghost use Rattle.lx_memory.specs.Bytes.{IsMapped};
 ghost use Rattle.lx_machine.specs.Memory.{first_lacking, all_mapped, all_free, any_executable, highest_gap};
 
@@ -37,7 +37,8 @@ pub fn any_executable(memory: &Memory, first: u64, count: u64) -> bool
 
 /// The greatest first page of so many free pages between two pages, if there is one.
 pub fn highest_gap(memory: &Memory, count: u64, low: u64, high: u64) -> Option<u64>
-    ensures { result ≡ highest_gap memory.now count low high }
+    ensures value { result ≡ highest_gap memory.now count low high }
+    ensures below { IfSome result (λ first. first + count ≤ high) }
 {
     memory.highest_gap(count, low, high)
 }
