@@ -1,6 +1,6 @@
 -- brk, mmap, munmap, mprotect and madvise. Source: the manual page of each. That the code can't be changed, and that the
 -- highest free range is taken, is this project's own.
-use Rattle.std.specs.Prelude.{ℕ, ◌+◌, ◌-◌, ◌*◌, ◌/◌, ◌%◌, ◌^◌, ◌==◌, Bool, true, false, ◌&&◌, nat_lt, nat_le, if◌then◌else◌, Option, Some, None}
+use Rattle.std.specs.Prelude.{ℕ, ◌-◌, ◌*◌, ◌/◌, ◌%◌, ◌==◌, nat_lt, nat_le, if◌then◌else◌, Option, Some, None}
 use Rattle.std.proofs.Math.Bool.{not}
 use Rattle.linux_abi.specs.declared.errno.LinuxErrno.{LinuxErrno}
 use Rattle.linux_abi.specs.declared.errno.LinuxErrno.TheVariants as errno

@@ -1,5 +1,5 @@
 -- read, write, readv and writev: Hold, Drop and Move. Source: read(2), write(2), readv(2), pipe(7), eventfd(2).
-use Rattle.std.specs.Prelude.{◌≡◌, ℕ, ◌+◌, ◌-◌, ◌^◌, ◌==◌, Bool, true, false, ◌&&◌, ◌||◌, nat_lt, nat_le, min, if◌then◌else◌, List, [], ◌∷◌, ◌++◌, length, take, drop, Option, Some, None, Result, Ok, Err, ℤ, pos}
+use Rattle.std.specs.Prelude.{◌≡◌, ℕ, ◌+◌, ◌-◌, ◌^◌, ◌==◌, Bool, true, false, ◌&&◌, ◌||◌, nat_lt, nat_le, min, if◌then◌else◌, List, [], ◌∷◌, ◌++◌, length, take, drop, Option, Some, None, Result, Ok, Err, pos}
 use Rattle.std.proofs.Math.Bool.{not}
 use Rattle.std.specs.List.{list_any}
 use Rattle.std.specs.Option.{option_map}
@@ -20,7 +20,6 @@ use Rattle.lx_machine.specs.State.{LinuxState}
 use Rattle.lx_machine.specs.declared.files.Files.{Files}
 use Rattle.lx_machine.specs.Threads.{in_call_of}
 use Rattle.lx_machine.specs.declared.calls.LxCall.{LxCall}
-use Rattle.lx_machine.specs.declared.calls.Piece.{Piece}
 use Rattle.lx_machine.specs.declared.files.Counter.{Counter}
 use Rattle.lx_machine.specs.declared.files.Descriptor.{Descriptor}
 use Rattle.lx_machine.specs.declared.files.OpenFile.{OpenFile}

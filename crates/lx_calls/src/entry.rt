@@ -68,7 +68,10 @@ fn refused_if(test: bool, e: LinuxErrno) -> Option<LinuxErrno>
 fn vector_refusal(call: &LxCall) -> Option<LinuxErrno>
     ensures { result ≡ first_refusal (vector_refusals call.now) }
 {
-    refused_if(u64::from(call.low_argument(2)) > IOV_MAX, LinuxErrno::EINVAL)
+    refused_if(
+        u64::from(call.low_argument(2)) > IOV_MAX,
+        LinuxErrno::EINVAL,
+    )
 }
 
 /// mmap(2).
@@ -179,10 +182,38 @@ fn first_pieces(alloc: Global, call: &LxCall, kind: Call) -> Result<Pieces, NoMe
 {
     let at = call.arguments[1];
     match kind {
-        Call::Read => clip(alloc, ROOM as u64, &[Piece { at, len: call.arguments[2] }]),
-        Call::Write => clip(alloc, ROOM as u64, &[Piece { at, len: call.arguments[2] }]),
-        Call::Readv => clip(alloc, ROOM as u64, &[Piece { at, len: u64::from(call.low_argument(2)) * 16 }]),
-        Call::Writev => clip(alloc, ROOM as u64, &[Piece { at, len: u64::from(call.low_argument(2)) * 16 }]),
+        Call::Read => clip(
+            alloc,
+            ROOM as u64,
+            &[Piece {
+                at,
+                len: call.arguments[2],
+            }],
+        ),
+        Call::Write => clip(
+            alloc,
+            ROOM as u64,
+            &[Piece {
+                at,
+                len: call.arguments[2],
+            }],
+        ),
+        Call::Readv => clip(
+            alloc,
+            ROOM as u64,
+            &[Piece {
+                at,
+                len: u64::from(call.low_argument(2)) * 16,
+            }],
+        ),
+        Call::Writev => clip(
+            alloc,
+            ROOM as u64,
+            &[Piece {
+                at,
+                len: u64::from(call.low_argument(2)) * 16,
+            }],
+        ),
         _ => Ok(Pieces::none(alloc)),
     }
 }

@@ -4,9 +4,9 @@
 pub mod descriptors;
 pub mod entry;
 pub mod files;
-pub mod shape;
 pub mod memory_calls;
 pub mod reads;
+pub mod shape;
 pub mod transfers;
 pub mod vectors;
 pub mod writes;

@@ -50,7 +50,10 @@ fn raise(space: &mut Space, call: &mut LxCall, at: u64) -> Result<PageRange, NoM
     let first = pages_of(space.break_at);
     let count = pages_of(at) - first;
     if all_free(&space.pages, first, count) {
-        space.pages.map(first, count, rights_of(3)).map_err(|_| NoMemory)?;
+        space
+            .pages
+            .map(first, count, rights_of(3))
+            .map_err(|_| NoMemory)?;
         space.break_at = at;
         call.answer(at);
     } else {
@@ -164,7 +167,9 @@ pub fn mprotect(space: &mut Space, call: &mut LxCall)
         call.refuse(LinuxErrno::EACCES);
         return;
     }
-    space.pages.protect(first, count, rights_of(call.low_argument(2)));
+    space
+        .pages
+        .protect(first, count, rights_of(call.low_argument(2)));
     call.answer(0);
 }
 

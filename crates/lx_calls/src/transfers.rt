@@ -111,7 +111,12 @@ pub(crate) fn end_refused(files: &mut Files, call: &mut LxCall, file: u32, e: Li
 }
 
 /// A move that has to wait.
-pub(crate) fn wait(files: &mut Files, call: &mut LxCall, file: u32, f: OpenFile) -> Result<bool, NoStep>
+pub(crate) fn wait(
+    files: &mut Files,
+    call: &mut LxCall,
+    file: u32,
+    f: OpenFile,
+) -> Result<bool, NoStep>
     ensures { Makes (waits files.old call.old file f) files.old call.old files.new call.new result }
 {
     if !f.nonblocking {
@@ -122,7 +127,13 @@ pub(crate) fn wait(files: &mut Files, call: &mut LxCall, file: u32, f: OpenFile)
 }
 
 /// Moves bytes between the call and this open file.
-fn move_file(alloc: Global, files: &mut Files, call: &mut LxCall, file: u32, f: OpenFile) -> Result<bool, NoStep>
+fn move_file(
+    alloc: Global,
+    files: &mut Files,
+    call: &mut LxCall,
+    file: u32,
+    f: OpenFile,
+) -> Result<bool, NoStep>
     ensures { Makes (move_file files.old call.old file f) files.old call.old files.new call.new result }
 {
     if is_read(call) {

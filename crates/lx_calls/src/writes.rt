@@ -56,7 +56,12 @@ fn wrote(files: &mut Files, call: &mut LxCall, file: u32, f: OpenFile, n: usize,
 }
 
 /// A write that can move nothing.
-fn write_nothing(files: &mut Files, call: &mut LxCall, file: u32, f: OpenFile) -> Result<bool, NoStep>
+fn write_nothing(
+    files: &mut Files,
+    call: &mut LxCall,
+    file: u32,
+    f: OpenFile,
+) -> Result<bool, NoStep>
     ensures { Makes (write_waits files.old call.old file f) files.old call.old files.new call.new result }
 {
     if f.nonblocking && call.moved > 0 {
@@ -113,7 +118,13 @@ fn put_into_pipe(pipes: &mut [Option<Room>], pipe: u32, bytes: &[u8])
 }
 
 /// A write of some bytes to a pipe.
-fn write_to_pipe(files: &mut Files, call: &mut LxCall, file: u32, f: OpenFile, pipe: u32) -> Result<bool, NoStep>
+fn write_to_pipe(
+    files: &mut Files,
+    call: &mut LxCall,
+    file: u32,
+    f: OpenFile,
+    pipe: u32,
+) -> Result<bool, NoStep>
     ensures { Makes (bind (at_place files.old.pipes pipe) (write_pipe files.old call.old file f pipe)) files.old call.old files.new call.new result }
 {
     let Some(Some(room)) = files.pipes.get(pipe as usize) else {
@@ -134,7 +145,13 @@ fn write_to_pipe(files: &mut Files, call: &mut LxCall, file: u32, f: OpenFile, p
 }
 
 /// A write to a pipe: one of no bytes answers 0.
-fn write_pipe(files: &mut Files, call: &mut LxCall, file: u32, f: OpenFile, pipe: u32) -> Result<bool, NoStep>
+fn write_pipe(
+    files: &mut Files,
+    call: &mut LxCall,
+    file: u32,
+    f: OpenFile,
+    pipe: u32,
+) -> Result<bool, NoStep>
     ensures { Makes (write_move files.old call.old file f (kind.PipeWrite pipe)) files.old call.old files.new call.new result }
 {
     if is_at_most(call, 0) {
@@ -181,7 +198,13 @@ fn put_into_console(files: &mut Files, which: LxSide, bytes: &[u8]) -> Result<()
 }
 
 /// A write of some bytes to a console.
-fn write_to_console(files: &mut Files, call: &mut LxCall, file: u32, f: OpenFile, which: LxSide) -> Result<bool, NoStep>
+fn write_to_console(
+    files: &mut Files,
+    call: &mut LxCall,
+    file: u32,
+    f: OpenFile,
+    which: LxSide,
+) -> Result<bool, NoStep>
     ensures { Makes (write_console files.old call.old file f which) files.old call.old files.new call.new result }
 {
     let n = goes_into_console(files, call, which);
@@ -195,7 +218,13 @@ fn write_to_console(files: &mut Files, call: &mut LxCall, file: u32, f: OpenFile
 }
 
 /// A write to a console: one of no bytes answers 0.
-fn write_console(files: &mut Files, call: &mut LxCall, file: u32, f: OpenFile, which: LxSide) -> Result<bool, NoStep>
+fn write_console(
+    files: &mut Files,
+    call: &mut LxCall,
+    file: u32,
+    f: OpenFile,
+    which: LxSide,
+) -> Result<bool, NoStep>
     ensures { Makes (write_move files.old call.old file f (kind.Console which)) files.old call.old files.new call.new result }
 {
     if is_at_most(call, 0) {
@@ -206,7 +235,15 @@ fn write_console(files: &mut Files, call: &mut LxCall, file: u32, f: OpenFile, w
 }
 
 /// A write that adds this number to a counter.
-fn add_to_counter(files: &mut Files, call: &mut LxCall, file: u32, f: OpenFile, number: u32, counter: Counter, added: u64) -> Result<bool, NoStep>
+fn add_to_counter(
+    files: &mut Files,
+    call: &mut LxCall,
+    file: u32,
+    f: OpenFile,
+    number: u32,
+    counter: Counter,
+    added: u64,
+) -> Result<bool, NoStep>
     ensures { Makes (if nat_lt (2 ^ 64 - 2) (counter.value + added) then waits files.old call.old file f else ends_with (with_counter files.old number record counter { value = counter.value + added }) call.old file 8) files.old call.old files.new call.new result }
 {
     match counter.value.checked_add(added) {
@@ -224,7 +261,14 @@ fn add_to_counter(files: &mut Files, call: &mut LxCall, file: u32, f: OpenFile, 
 }
 
 /// A write to this counter.
-fn write_count(files: &mut Files, call: &mut LxCall, file: u32, f: OpenFile, at: u32, counter: Counter) -> Result<bool, NoStep>
+fn write_count(
+    files: &mut Files,
+    call: &mut LxCall,
+    file: u32,
+    f: OpenFile,
+    at: u32,
+    counter: Counter,
+) -> Result<bool, NoStep>
     ensures { Makes (write_counter files.old call.old file f at counter) files.old call.old files.new call.new result }
 {
     let bytes = call.bytes.as_slice();
@@ -241,7 +285,13 @@ fn write_count(files: &mut Files, call: &mut LxCall, file: u32, f: OpenFile, at:
 }
 
 /// A write to a counter.
-fn write_counter(files: &mut Files, call: &mut LxCall, file: u32, f: OpenFile, at: u32) -> Result<bool, NoStep>
+fn write_counter(
+    files: &mut Files,
+    call: &mut LxCall,
+    file: u32,
+    f: OpenFile,
+    at: u32,
+) -> Result<bool, NoStep>
     ensures { Makes (write_move files.old call.old file f (kind.Counter at)) files.old call.old files.new call.new result }
 {
     match place_at(&files.counters, at) {
@@ -251,7 +301,12 @@ fn write_counter(files: &mut Files, call: &mut LxCall, file: u32, f: OpenFile, a
 }
 
 /// Moves the bytes of a write.
-pub(crate) fn write_move(files: &mut Files, call: &mut LxCall, file: u32, f: OpenFile) -> Result<bool, NoStep>
+pub(crate) fn write_move(
+    files: &mut Files,
+    call: &mut LxCall,
+    file: u32,
+    f: OpenFile,
+) -> Result<bool, NoStep>
     ensures { Makes (write_move files.old call.old file f f.kind) files.old call.old files.new call.new result }
 {
     match f.kind {

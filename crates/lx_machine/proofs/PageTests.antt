@@ -84,9 +84,10 @@ all_mapped_decides : (pages : Pages) (first count : ℕ) → Decides (all_mapped
 all_mapped_decides pages first count = (passes_each is_some pages first count, passes_all is_some pages first count)
 
 pub all_free_decides : (pages : Pages) (first count : ℕ) → Decides (all_free pages first count) (EachPage first count (IsFreeAt pages))
-all_free_decides pages first count =
-    (λ h p low high. none_is (map.get pages p) (passes_each is_free pages first count h p low high),
-    λ each. passes_all is_free pages first count (λ p low high. is_from_none (map.get pages p) (each p low high)))
+all_free_decides pages first count = (
+  λ h p low high. none_is (map.get pages p) (passes_each is_free pages first count h p low high),
+  λ each. passes_all is_free pages first count (λ p low high. is_from_none (map.get pages p) (each p low high)),
+)
 
 executable_is : (pages : Pages) (first count : ℕ) → SomeFails no_code pages first count → SomePage first count (IsExecutableAt pages)
 executable_is pages first count s = record { page = s.page; from = s.from; below = s.below; holds = from_not_false (has (allows Execute) (map.get pages s.page)) s.holds }
@@ -95,9 +96,10 @@ executable_from : (pages : Pages) (first count : ℕ) → SomePage first count (
 executable_from pages first count s = record { page = s.page; from = s.from; below = s.below; holds = to_not_false (has (allows Execute) (map.get pages s.page)) s.holds }
 
 any_executable_decides : (pages : Pages) (first count : ℕ) → Decides (any_executable pages first count) (SomePage first count (IsExecutableAt pages))
-any_executable_decides pages first count =
-    (λ h. executable_is pages first count (some_fails no_code pages first count (not_true (all_pages no_code pages first count) h)),
-    λ s. not_false (all_pages no_code pages first count) (fails_from no_code pages first count (all_pages no_code pages first count) refl (executable_from pages first count s)))
+any_executable_decides pages first count = (
+  λ h. executable_is pages first count (some_fails no_code pages first count (not_true (all_pages no_code pages first count) h)),
+  λ s. not_false (all_pages no_code pages first count) (fails_from no_code pages first count (all_pages no_code pages first count) refl (executable_from pages first count s)),
+)
 
 pub same_all_mapped : (b : Bool) (pages : Pages) (first count : ℕ) → Decides b (EachPage first count (IsMappedAt pages)) → b ≡ all_mapped pages first count
 same_all_mapped b pages first count h = same_from_decides b (all_mapped pages first count) h (all_mapped_decides pages first count)
