@@ -5,6 +5,7 @@ pub mod descriptors;
 pub mod entry;
 pub mod files;
 pub mod memory_calls;
+pub mod process_calls;
 pub mod reads;
 pub mod shape;
 pub mod transfers;
