@@ -8,6 +8,8 @@ pub mod memory_calls;
 pub mod process_calls;
 pub mod reads;
 pub mod shape;
+#[cfg(test)]
+mod tests;
 pub mod transfers;
 pub mod vectors;
 pub mod writes;

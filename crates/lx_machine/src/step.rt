@@ -2,7 +2,7 @@
 use crate::buffer::NoMemory;
 
 /// Why a step is not made; then nothing changes.
-#[derive(Clone, Copy)]
+#[derive(Clone, Copy, Debug, PartialEq, Eq)]
 pub enum NoStep {
     /// The step is not enabled: the machine has no such step from where it stands.
     NotEnabled,
