@@ -1,6 +1,5 @@
 -- Calls on descriptors. Source: eventfd(2), dup(2), fcntl(2), ioctl(2), close(2), pipe(2), lseek(2).
-use Rattle.std.specs.Prelude.{ℕ, suc, ◌+◌, ◌-◌, ◌*◌, ◌/◌, ◌%◌, ◌^◌, ◌==◌, Bool, true, false, ◌&&◌, ◌||◌, nat_lt, nat_le, if◌then◌else◌, List, [], ◌∷◌, ◌++◌, length, drop, Option, Some, None}
-use Rattle.std.proofs.Math.Bool.{not}
+use Rattle.std.specs.Prelude.{ℕ, suc, ◌+◌, ◌*◌, ◌/◌, ◌%◌, ◌^◌, ◌==◌, Bool, true, false, nat_le, if◌then◌else◌, List, [], ◌∷◌, ◌++◌, drop, Option, Some, None}
 use Rattle.std.specs.Int.{from_bool}
 use Rattle.places.specs.Places.{bytes_of}
 use Rattle.linux_abi.specs.DescriptorOperation.{descriptor_operation_of}
@@ -8,13 +7,11 @@ use Rattle.linux_abi.specs.declared.files.DescriptorOperation.{DescriptorOperati
 use Rattle.linux_abi.specs.declared.files.DescriptorOperation.TheVariants as operation
 use Rattle.linux_abi.specs.declared.errno.LinuxErrno.{LinuxErrno}
 use Rattle.linux_abi.specs.declared.errno.LinuxErrno.TheVariants as errno
-use Rattle.lx_machine.specs.Lists.{bind, at_place, with_place, first_free, first_free_from}
+use Rattle.lx_machine.specs.Lists.{at_place, with_place, first_free, first_free_from}
 use Rattle.lx_machine.specs.Pieces.{piece}
 use Rattle.lx_machine.specs.Calls.{argument, low_argument, answered, answered_with, refused}
-use Rattle.lx_machine.specs.declared.state.LinuxState.{LinuxState}
 use Rattle.lx_machine.specs.declared.files.Files.{Files}
 use Rattle.lx_machine.specs.declared.calls.LxCall.{LxCall}
-use Rattle.lx_machine.specs.declared.files.Counter.{Counter}
 use Rattle.lx_machine.specs.declared.files.Descriptor.{Descriptor}
 use Rattle.lx_machine.specs.declared.files.OpenFile.{OpenFile}
 use Rattle.lx_machine.specs.declared.files.FileKind.{FileKind}

@@ -344,7 +344,12 @@ fn add_end(files: &mut Files, kind: FileKind, file: u32, fd: u32, flags: u64)
 }
 
 /// A pipe at these numbers.
-fn pipe_at(alloc: Global, files: &mut Files, call: &mut LxCall, at: PipeNumbers) -> Result<(), NoMemory>
+fn pipe_at(
+    alloc: Global,
+    files: &mut Files,
+    call: &mut LxCall,
+    at: PipeNumbers,
+) -> Result<(), NoMemory>
     ensures ok { OnOk result (outcome files.new call.new ≡ pipe_at files.old call.old at.pipe at.read_file at.write_file at.read_fd at.write_fd) }
     ensures err { OnErr result ((files.new ≡ files.old) × (call.new ≡ call.old)) }
 {
@@ -352,12 +357,28 @@ fn pipe_at(alloc: Global, files: &mut Files, call: &mut LxCall, at: PipeNumbers)
     let flags = flags(call, 1);
     set_place(&mut files.pipes, at.pipe, Some(parts.room));
     let nonblocking = has_nonblock(flags);
-    add_file(files, at.read_file, FileKind::PipeRead(at.pipe), nonblocking);
-    add_file(files, at.write_file, FileKind::PipeWrite(at.pipe), nonblocking);
+    add_file(
+        files,
+        at.read_file,
+        FileKind::PipeRead(at.pipe),
+        nonblocking,
+    );
+    add_file(
+        files,
+        at.write_file,
+        FileKind::PipeWrite(at.pipe),
+        nonblocking,
+    );
     let close_on_exec = has_cloexec(flags);
-    let read_end = Descriptor { file: at.read_file, close_on_exec };
+    let read_end = Descriptor {
+        file: at.read_file,
+        close_on_exec,
+    };
     set_descriptor(files, at.read_fd, read_end);
-    let write_end = Descriptor { file: at.write_file, close_on_exec };
+    let write_end = Descriptor {
+        file: at.write_file,
+        close_on_exec,
+    };
     set_descriptor(files, at.write_fd, write_end);
     call.answer_with(0, parts.pieces, parts.bytes);
     Ok(())

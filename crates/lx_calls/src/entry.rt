@@ -1,7 +1,6 @@
 //! How SVC enters a call: the refusals that need no look at the machine, in their order. The manual page of each call says
 //! which there are.
 ghost use Rattle.std.specs.Prelude.{◌≡◌, if◌then◌else◌, Some, None, IfOk, OnErr, OnOk};
-ghost use Rattle.lx_machine.specs.declared.threads.LxThread.{LxThread};
 ghost use Rattle.lx_calls.specs.Entry.{first_refusal, has_other, is_unaligned, pages_of, ends_above, is_fixed, wants_execute, vector_refusals, mmap_refusals, munmap_refusals, mprotect_refusals, madvise_refusals, eventfd_refusals, pipe_refusals, dup3_refusals, refusals, first_pieces, entered_as, entered};
 
 use crate::vectors::clip;
@@ -68,7 +67,10 @@ fn refused_if(test: bool, e: LinuxErrno) -> Option<LinuxErrno>
 fn vector_refusal(call: &LxCall) -> Option<LinuxErrno>
     ensures { result ≡ first_refusal (vector_refusals call.now) }
 {
-    refused_if(u64::from(call.low_argument(2)) > IOV_MAX, LinuxErrno::EINVAL)
+    refused_if(
+        u64::from(call.low_argument(2)) > IOV_MAX,
+        LinuxErrno::EINVAL,
+    )
 }
 
 /// mmap(2).
@@ -179,10 +181,38 @@ fn first_pieces(alloc: Global, call: &LxCall, kind: Call) -> Result<Pieces, NoMe
 {
     let at = call.arguments[1];
     match kind {
-        Call::Read => clip(alloc, ROOM as u64, &[Piece { at, len: call.arguments[2] }]),
-        Call::Write => clip(alloc, ROOM as u64, &[Piece { at, len: call.arguments[2] }]),
-        Call::Readv => clip(alloc, ROOM as u64, &[Piece { at, len: u64::from(call.low_argument(2)) * 16 }]),
-        Call::Writev => clip(alloc, ROOM as u64, &[Piece { at, len: u64::from(call.low_argument(2)) * 16 }]),
+        Call::Read => clip(
+            alloc,
+            ROOM as u64,
+            &[Piece {
+                at,
+                len: call.arguments[2],
+            }],
+        ),
+        Call::Write => clip(
+            alloc,
+            ROOM as u64,
+            &[Piece {
+                at,
+                len: call.arguments[2],
+            }],
+        ),
+        Call::Readv => clip(
+            alloc,
+            ROOM as u64,
+            &[Piece {
+                at,
+                len: u64::from(call.low_argument(2)) * 16,
+            }],
+        ),
+        Call::Writev => clip(
+            alloc,
+            ROOM as u64,
+            &[Piece {
+                at,
+                len: u64::from(call.low_argument(2)) * 16,
+            }],
+        ),
         _ => Ok(Pieces::none(alloc)),
     }
 }

@@ -14,7 +14,7 @@ use Rattle.lx_machine.specs.declared.threads.LxThread.{LxThread}
 use Rattle.lx_calls.specs.Entry.{entered}
 use Rattle.lx_run.specs.Places.{ran_at, ran_in, RunsIn}
 use Rattle.lx_run.specs.declared.instruction.Written.{Written}
-use Rattle.lx_run.specs.declared.refusal.LxRefusal.TheVariants.{NoStep}
+use Rattle.lx_machine.specs.declared.refusal.LxRefusal.TheVariants.{NoStep}
 
 -- what is put back where it was changes nothing
 pub set_back : (xs : List (Option LxThread)) (i : ℕ) (d : Option LxThread) → slice_set xs i (slice_index_or xs i d) ≡ xs

@@ -7,8 +7,8 @@ use Rattle.lx_machine.specs.Step.{is_user}
 use Rattle.lx_machine.specs.declared.threads.LxThread.{LxThread}
 use Rattle.lx_calls.specs.Entry.{entered}
 use Rattle.lx_run.specs.declared.instruction.Written.{Written}
-use Rattle.lx_run.specs.declared.refusal.LxRefusal.{LxRefusal}
-use Rattle.lx_run.specs.declared.refusal.LxRefusal.TheVariants.{NoStep, NoMemory}
+use Rattle.lx_machine.specs.declared.refusal.LxRefusal.{LxRefusal}
+use Rattle.lx_machine.specs.declared.refusal.LxRefusal.TheVariants.{NoStep, NoMemory}
 
 -- the instruction of the thread in this place, if it has one that may run
 abbrev pub ran_at : Pages → Option LxThread → Option Ran

@@ -16,7 +16,7 @@ use Rattle.lx_machine.specs.declared.files.FileKind.TheVariants as kind
 use Rattle.lx_machine.specs.declared.files.Files.{Files}
 use Rattle.lx_machine.specs.declared.label.LxSide.TheVariants as side
 use Rattle.lx_machine.specs.declared.state.LinuxState.{LinuxState}
-use Rattle.lx_machine.specs.declared.state.Space.{Space}
+use Rattle.lx_machine.specs.declared.space.Space.{Space}
 use Rattle.lx_machine.specs.declared.threads.LxThread.{LxThread}
 use Rattle.lx_machine.specs.declared.threads.Life.TheVariants.{Live}
 use Rattle.lx_machine.specs.Step.{default_action}

@@ -3,5 +3,4 @@
 
 pub mod access;
 pub mod instruction;
-pub mod refusal;
 pub mod threads;

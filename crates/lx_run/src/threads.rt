@@ -8,7 +8,7 @@ ghost use Rattle.lx_run.specs.Places.{ran_at, RunsAt, ran_in, RunsIn};
 ghost use Rattle.lx_run.specs.Steps.{Steps};
 
 use crate::instruction::{Written, run};
-use crate::refusal::LxRefusal;
+use lx_machine::refusal::LxRefusal;
 use lx_machine::buffer::NoMemory;
 use lx_machine::state::{LinuxState, THREADS};
 use lx_machine::threads::LxThread;
