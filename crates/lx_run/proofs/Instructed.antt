@@ -1,5 +1,5 @@
 -- A step in the place of a thread is a step of the state.
-use Rattle.std.proofs.Common.{◌≡◌, ℕ, ◌<◌, ◌≤◌, Bool, true, false, List, Option, Some, None, length, slice_set, arith, refl}
+use Rattle.std.proofs.Common.{◌≡◌, ℕ, ◌<◌, ◌≤◌, Bool, true, false, List, Option, Some, None, length, slice_set, refl}
 use Rattle.std.specs.Prelude.{slice_get, slice_index_or, if◌then◌else◌, Ok, Err}
 use Rattle.std.proofs.lemmas.Option.{slice_get_past, slice_get-get_or}
 use Rattle.std.proofs.lemmas.List.{set-get_or}

@@ -1,5 +1,5 @@
 -- Steps in the place of a thread.
-use Rattle.std.specs.Prelude.{◌≡◌, ℕ, Bool, if◌then◌else◌, List, slice_get, Option, Some, None, Result, Ok, Err}
+use Rattle.std.specs.Prelude.{◌≡◌, ℕ, if◌then◌else◌, List, slice_get, Option, Some, None, Result, Ok, Err}
 use Rattle.page_store.specs.Pages.{Pages}
 use Rattle.lx_machine.specs.Lists.{bind, with_place}
 use Rattle.lx_machine.specs.Instructions.{Ran, ran}

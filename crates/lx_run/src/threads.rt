@@ -8,8 +8,8 @@ ghost use Rattle.lx_run.specs.Places.{ran_at, RunsAt, ran_in, RunsIn};
 ghost use Rattle.lx_run.specs.Steps.{Steps};
 
 use crate::instruction::{Written, run};
-use lx_machine::refusal::LxRefusal;
 use lx_machine::buffer::NoMemory;
+use lx_machine::refusal::LxRefusal;
 use lx_machine::state::{LinuxState, THREADS};
 use lx_machine::threads::LxThread;
 use lx_memory::Memory;
@@ -112,11 +112,7 @@ fn run_in(
 }
 
 /// Instr: the instruction at pc of the thread in a slot that is in no call.
-pub fn instruction(
-    state: &mut LinuxState,
-    alloc: Global,
-    slot: u8,
-) -> Result<(), LxRefusal>
+pub fn instruction(state: &mut LinuxState, alloc: Global, slot: u8) -> Result<(), LxRefusal>
     ensures { Steps (outside_call state.old slot (λ t. Some (spec.instruction entered state.old slot t))) state.old state.new result }
 {
     let written = run_in(alloc, &mut state.space.pages, &mut state.threads, slot)?;
