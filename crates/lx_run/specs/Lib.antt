@@ -1,4 +1,5 @@
 pub mod Accesses
+pub mod FirstStack
 pub mod Stack
 pub mod Start
 pub mod Steps
