@@ -1,4 +1,6 @@
 pub mod Answering
 pub mod Exchanged
 pub mod Filled
+pub mod FirstStack
+pub mod Mapped
 pub mod Small

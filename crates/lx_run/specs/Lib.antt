@@ -1,5 +1,6 @@
 pub mod Accesses
 pub mod FirstStack
+pub mod Parts
 pub mod Stack
 pub mod Start
 pub mod Steps

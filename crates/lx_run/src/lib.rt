@@ -5,4 +5,5 @@ pub mod access;
 pub mod instruction;
 pub mod refusal;
 pub mod stack;
+pub mod start;
 pub mod threads;
