@@ -14,7 +14,6 @@ use Rattle.lx_memory.proofs.OnEach.{get-with_page_same, get-with_page_other}
 within_is : (first count page : ℕ) → first ≤ page → page < first + count → within first count page ≡ true
 within_is first count page low high = grind (arith, common_steps)
 
-
 -- a range of pages that are mapped anew
 pub mapped_anew : (rights : Rights) (old new : Pages) (first count at len : ℕ) → IsOnEach (anew rights) old first count new → 4096 * first ≤ at → at + len ≤ 4096 * (first + count) → IsMapped new at len
 mapped_anew rights old new first count at len each low high address from below =

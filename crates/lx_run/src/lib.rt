@@ -6,4 +6,6 @@ pub mod instruction;
 pub mod refusal;
 pub mod stack;
 pub mod start;
+#[cfg(test)]
+mod tests;
 pub mod threads;

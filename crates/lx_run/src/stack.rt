@@ -24,6 +24,7 @@ const STACK_START: u64 = 0x7fff_fefc_0000;
 
 /// The bytes of the stack, and the words of 8 bytes that it has room for.
 const STACK_BYTES: usize = 0x4_0000;
+
 const STACK_WORDS: usize = 0x8000;
 
 /// The bits of 2^64 over the golden ratio, which the second half of the random bytes has turned.
@@ -34,6 +35,7 @@ const USER: u64 = 1000;
 
 /// The bytes of a program header (ELF-64, Elf64_Phdr) and of a page.
 const HEADER_BYTES: u64 = 56;
+
 const PAGE_BYTES: u64 = 4096;
 
 /// What a first stack has above its table: the random bytes and the texts behind them, where they stand, and where the
@@ -112,12 +114,7 @@ fn bytes_above(
 }
 
 /// What the stack has above the table. `NoMemory`: memory is wanting, or the stack has no room for so many bytes.
-fn texts_of(
-    alloc: Global,
-    name: &[u8],
-    arguments: &[String],
-    seed: u64,
-) -> Result<Texts, NoMemory>
+fn texts_of(alloc: Global, name: &[u8], arguments: &[String], seed: u64) -> Result<Texts, NoMemory>
     ensures { IfOk result (IsTexts name.now (map string_bytes arguments.now) seed) }
 {
     let Ok(bytes) = bytes_above(alloc, name, arguments, seed) else {
