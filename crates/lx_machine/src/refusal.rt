@@ -2,7 +2,7 @@
 use crate::buffer::NoMemory;
 
 /// Why a step is not made; then nothing changes.
-#[derive(Clone, Copy)]
+#[derive(Clone, Copy, Debug)]
 pub enum LxRefusal {
     /// The machine has no such step from where it stands.
     NoStep,

@@ -24,6 +24,17 @@ pub struct SigInfo {
     pub origin: Origin,
 }
 
+/// What stands in a place of a list that holds no signal.
+impl Default for SigInfo {
+    fn default() -> SigInfo {
+        SigInfo {
+            signal: LinuxSig::SIGHUP,
+            code: 0,
+            origin: Origin::Address(0),
+        }
+    }
+}
+
 /// What is done at a signal: the handler's address, or 0 for the default action or 1 for none, the flags SA_*, the
 /// restorer's address, and the signals that are blocked meanwhile, signal n as bit n - 1.
 #[derive(Clone, Copy)]
@@ -70,6 +81,15 @@ impl Model for Pending {
 impl Pending {
     ghost use Rattle.std.specs.List.{list_any};
     ghost use Rattle.lx_machine.specs.Signals.{is_of};
+
+    /// No signals. Takes no memory.
+    pub fn empty() -> Pending
+        ensures { result ≡ [] }
+    {
+        Pending {
+            infos: ArrayVec::new(),
+        }
+    }
 
     /// Whether the signal is pending.
     pub fn has(&self, signal: LinuxSig) -> bool

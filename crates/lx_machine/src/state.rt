@@ -1,4 +1,6 @@
 //! The state of the Linux machine, all of it.
+ghost use Rattle.std.specs.Prelude.{◌≡◌, []};
+
 use crate::files::Files;
 use crate::signals::{Action, Pending};
 use crate::space::Space;
@@ -22,6 +24,17 @@ impl Model for Queue {
     ghost Value = { List LxWaiter };
 
     ghost view = { λ q. q.waiters.items };
+}
+
+impl Queue {
+    /// No waiters. Takes no memory.
+    pub fn empty() -> Queue
+        ensures { result ≡ [] }
+    {
+        Queue {
+            waiters: ArrayVec::new(),
+        }
+    }
 }
 
 /// The state: places for threads, memory, the one futex queue, files, the actions of signals 1 to 64, the pending signals

@@ -61,3 +61,13 @@ words (n ∷ ns) = bytes_of n 8 ++ words ns
 -- sp: the greatest multiple of 16 that leaves room for the table
 abbrev pub table_at : Headers → List ℕ → List (List ℕ) → ℕ
 table_at h name arguments = (random_at name arguments - 8 * length (table h name arguments)) / 16 * 16
+
+-- ---- the words with which a program is started: the image name, and the arguments behind it. Without any the name is empty.
+
+abbrev pub name_of : List (List ℕ) → List ℕ
+name_of [] = []
+name_of (name ∷ arguments) = name
+
+abbrev pub arguments_of : List (List ℕ) → List (List ℕ)
+arguments_of [] = []
+arguments_of (name ∷ arguments) = arguments

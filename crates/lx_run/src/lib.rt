@@ -3,4 +3,8 @@
 
 pub mod access;
 pub mod instruction;
+pub mod stack;
+pub mod start;
+#[cfg(test)]
+mod tests;
 pub mod threads;
