@@ -7,7 +7,7 @@ use Rattle.lx_memory.specs.Ranges.{mapped}
 use Rattle.elf_image.specs.declared.parts.Image.{Image}
 use Rattle.a64_model.specs.declared.regs.Regs.{Regs}
 use Rattle.lx_machine.specs.declared.state.LinuxState.{LinuxState}
-use Rattle.lx_machine.specs.declared.state.Space.{Space}
+use Rattle.lx_machine.specs.declared.space.Space.{Space}
 use Rattle.lx_machine.specs.Step.{default_action}
 use Rattle.lx_run.specs.Stack.{stack_end}
 use Rattle.lx_run.specs.Start.{with_segments, stack_rights, with_return_page, last_end, first_thread, first_files}

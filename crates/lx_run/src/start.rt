@@ -18,7 +18,8 @@ use lx_machine::files::{
 };
 use lx_machine::label::LxSide;
 use lx_machine::signals::{Action, Pending};
-use lx_machine::state::{LinuxState, Queue, Space, THREADS};
+use lx_machine::space::Space;
+use lx_machine::state::{LinuxState, Queue, THREADS};
 use lx_machine::threads::{AltStack, Life, LxThread};
 use lx_memory::Memory;
 use std::alloc::Global;
