@@ -76,7 +76,7 @@ mapped_fixed S c =
     if any_executable S.pages (argument c 0 / 4096) (pages_of (argument c 1)) then refuses S c errno.EACCES
     else mapped_at S c (argument c 0 / 4096)
 
--- else in the highest free range below the stack's end
+-- else in the highest free range from page 16 on that ends at or below page 0x7fff00000
 abbrev pub mapped_in : Space → LxCall → Option ℕ → Outcome
 mapped_in S c (Some first) = mapped_at S c first
 mapped_in S c None = refuses S c errno.ENOMEM

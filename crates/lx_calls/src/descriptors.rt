@@ -393,15 +393,13 @@ fn second_free<T>(places: &[Option<T>], first: u32) -> Option<u32>
     next_free(places, first + 1)
 }
 
-/// The least free numbers for a pipe, where those of its read end are found, or the error where too few are free.
-fn numbers_behind(files: &Files, read_fd: u32, read_file: u32) -> Result<PipeNumbers, LinuxErrno>
-    requires fd { read_fd < 256 }
-    requires file { read_file < 288 }
-    ensures ok { IfOk result (λ at. (c : LxCall) → pipe_from files.now c (Some read_fd) (Some read_file) ≡ pipe_at files.now c at.pipe at.read_file at.write_file at.read_fd at.write_fd) }
-    ensures err { IfErr result (λ e. (c : LxCall) → pipe_from files.now c (Some read_fd) (Some read_file) ≡ refuses files.now c e) }
+/// The least free numbers for a pipe with these two descriptors, or the error where too few are free.
+fn numbers_for(files: &Files, read_fd: u32, write_fd: u32) -> Result<PipeNumbers, LinuxErrno>
+    ensures ok { IfOk result (λ at. (c : LxCall) → pipe_from files.now c read_fd (Some write_fd) ≡ pipe_at files.now c at.pipe at.read_file at.write_file at.read_fd at.write_fd) }
+    ensures err { IfErr result (λ e. (c : LxCall) → pipe_from files.now c read_fd (Some write_fd) ≡ refuses files.now c e) }
 {
-    let Some(write_fd) = second_free(&files.descriptors, read_fd) else {
-        return Err(LinuxErrno::EMFILE);
+    let Some(read_file) = first_free(&files.files) else {
+        return Err(LinuxErrno::ENFILE);
     };
     let Some(pipe) = first_free(&files.pipes) else {
         return Err(LinuxErrno::ENFILE);
@@ -426,10 +424,10 @@ fn free_numbers(files: &Files) -> Result<PipeNumbers, LinuxErrno>
     let Some(read_fd) = first_free(&files.descriptors) else {
         return Err(LinuxErrno::EMFILE);
     };
-    let Some(read_file) = first_free(&files.files) else {
-        return Err(LinuxErrno::ENFILE);
+    let Some(write_fd) = second_free(&files.descriptors, read_fd) else {
+        return Err(LinuxErrno::EMFILE);
     };
-    numbers_behind(files, read_fd, read_file)
+    numbers_for(files, read_fd, write_fd)
 }
 
 /// Makes a pipe with an open file and a descriptor for each of its ends (pipe(2)). Where memory is wanting, nothing

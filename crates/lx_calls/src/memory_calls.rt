@@ -14,7 +14,7 @@ use vm_areas::Rights;
 /// The first page where a mapping without MAP_FIXED may lie.
 const LOWEST_PAGE: u64 = 16;
 
-/// The page behind the last one where such a mapping may lie, which is that of the stack's end.
+/// The page behind the last one where such a mapping may lie.
 const HIGHEST_PAGE: u64 = 0x7_fff0_0000;
 
 /// MADV_DONTNEED (madvise(2)).
