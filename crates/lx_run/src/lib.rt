@@ -1,4 +1,5 @@
-//! The Linux machine that runs: `LxState::start` is its first state, and `LxState::step` one step of it.
+//! The Linux machine in a form that runs, as far as it is built: `start::first_state` is the state in which a program
+//! starts, and `threads::instruction` the step Instr. The steps of calls are functions of `lx_calls` on parts of the state.
 #![tactic(auto)]
 
 pub mod access;
