@@ -1,0 +1,119 @@
+-- How SVC enters a call: the refusals that need no look at the machine, in their order. Source: the manual page of each
+-- call; which flags there are is that of Linux for arm64.
+use Rattle.std.specs.Prelude.{ℕ, ◌+◌, ◌*◌, ◌/◌, ◌%◌, ◌^◌, ◌==◌, Bool, ◌&&◌, ◌||◌, nat_lt, bit_and, if◌then◌else◌, List, [], ◌∷◌, Option, Some, None, is_some}
+use Rattle.std.proofs.Math.Bool.{not}
+use Rattle.linux_abi.specs.Call.{call_of}
+use Rattle.linux_abi.specs.Advice.{advice_of}
+use Rattle.linux_abi.specs.declared.calls.Call.{Call}
+use Rattle.linux_abi.specs.declared.calls.Call.TheVariants as call
+use Rattle.linux_abi.specs.declared.errno.LinuxErrno.{LinuxErrno}
+use Rattle.linux_abi.specs.declared.errno.LinuxErrno.TheVariants as errno
+use Rattle.lx_machine.specs.Pieces.{piece, clipped}
+use Rattle.lx_machine.specs.Calls.{argument, low_argument, refused}
+use Rattle.lx_machine.specs.declared.calls.LxCall.{LxCall}
+use Rattle.lx_machine.specs.declared.calls.Piece.{Piece}
+use Rattle.lx_calls.specs.Vectors.{most_vectors}
+
+-- the first test that holds refuses the call
+abbrev pub first_refusal : List (Bool × LinuxErrno) → Option LinuxErrno
+first_refusal [] = None
+first_refusal (test ∷ tests) = if test.0 then Some test.1 else first_refusal tests
+
+-- the flags have a bit that is not allowed
+abbrev pub has_other : ℕ → ℕ → Bool
+has_other allowed flags = not (bit_and flags allowed == flags)
+
+-- the address is no multiple of a page
+abbrev pub is_unaligned : ℕ → Bool
+is_unaligned at = not (at % 4096 == 0)
+
+-- a length in whole pages, rounded up
+abbrev pub pages_of : ℕ → ℕ
+pages_of len = (len + 4095) / 4096
+
+-- the range, in whole pages, ends above the address space of a program (2^47)
+abbrev pub ends_above : ℕ → ℕ → Bool
+ends_above at len = nat_lt (2 ^ 47) (at + pages_of len * 4096)
+
+-- MAP_FIXED
+abbrev pub is_fixed : ℕ → Bool
+is_fixed flags = flags / 16 % 2 == 1
+
+-- PROT_EXEC
+abbrev pub wants_execute : ℕ → Bool
+wants_execute rights = rights / 4 % 2 == 1
+
+-- readv(2), writev(2)
+abbrev pub vector_refusals : LxCall → List (Bool × LinuxErrno)
+vector_refusals c = (nat_lt most_vectors (low_argument c 2), errno.EINVAL) ∷ []
+
+-- mmap(2)
+abbrev pub mmap_refusals : LxCall → List (Bool × LinuxErrno)
+mmap_refusals c =
+    (argument c 1 == 0, errno.EINVAL) ∷
+    (nat_lt 7 (low_argument c 2), errno.EINVAL) ∷
+    (not (low_argument c 3 % 4 == 1) && not (low_argument c 3 % 4 == 2), errno.EINVAL) ∷
+    (low_argument c 3 / 32 % 2 == 0, errno.ENODEV) ∷
+    (wants_execute (low_argument c 2), errno.EACCES) ∷
+    (is_fixed (low_argument c 3) && (is_unaligned (argument c 0) || ends_above (argument c 0) (argument c 1)), errno.EINVAL) ∷ []
+
+-- munmap(2)
+abbrev pub munmap_refusals : LxCall → List (Bool × LinuxErrno)
+munmap_refusals c = (is_unaligned (argument c 0) || (argument c 1 == 0) || ends_above (argument c 0) (argument c 1), errno.EINVAL) ∷ []
+
+-- mprotect(2)
+abbrev pub mprotect_refusals : LxCall → List (Bool × LinuxErrno)
+mprotect_refusals c =
+    (is_unaligned (argument c 0) || nat_lt 7 (low_argument c 2), errno.EINVAL) ∷
+    (wants_execute (low_argument c 2), errno.EACCES) ∷ []
+
+-- madvise(2)
+abbrev pub madvise_refusals : LxCall → List (Bool × LinuxErrno)
+madvise_refusals c = (is_unaligned (argument c 0), errno.EINVAL) ∷ (not (is_some (advice_of (low_argument c 2))), errno.EINVAL) ∷ []
+
+-- eventfd(2): EFD_SEMAPHORE, EFD_NONBLOCK, EFD_CLOEXEC
+abbrev pub eventfd_refusals : LxCall → List (Bool × LinuxErrno)
+eventfd_refusals c = (has_other 0x80801 (low_argument c 1), errno.EINVAL) ∷ []
+
+-- pipe(2): O_NONBLOCK, O_CLOEXEC
+abbrev pub pipe_refusals : LxCall → List (Bool × LinuxErrno)
+pipe_refusals c = (has_other 0x80800 (low_argument c 1), errno.EINVAL) ∷ []
+
+-- dup(2): O_CLOEXEC
+abbrev pub dup3_refusals : LxCall → List (Bool × LinuxErrno)
+dup3_refusals c =
+    (low_argument c 0 == low_argument c 1, errno.EINVAL) ∷ (has_other 0x80000 (low_argument c 2), errno.EINVAL) ∷ []
+
+-- what refuses a call at its entry
+abbrev pub refusals : LxCall → Call → List (Bool × LinuxErrno)
+refusals c call.Readv = vector_refusals c
+refusals c call.Writev = vector_refusals c
+refusals c call.Mmap = mmap_refusals c
+refusals c call.Munmap = munmap_refusals c
+refusals c call.Mprotect = mprotect_refusals c
+refusals c call.Madvise = madvise_refusals c
+refusals c call.Eventfd2 = eventfd_refusals c
+refusals c call.Pipe2 = pipe_refusals c
+refusals c call.Dup3 = dup3_refusals c
+refusals c _ = []
+
+-- the pieces of a transfer: the first 65,536 bytes of its range, or first of all its vectors, of 16 bytes each
+abbrev pub first_pieces : LxCall → Call → List Piece
+first_pieces c call.Read = clipped 65536 (piece (argument c 1) (argument c 2) ∷ [])
+first_pieces c call.Write = clipped 65536 (piece (argument c 1) (argument c 2) ∷ [])
+first_pieces c call.Readv = clipped 65536 (piece (argument c 1) (low_argument c 2 * 16) ∷ [])
+first_pieces c call.Writev = clipped 65536 (piece (argument c 1) (low_argument c 2 * 16) ∷ [])
+first_pieces c _ = []
+
+abbrev pub entered_unless : LxCall → Call → Option LinuxErrno → LxCall
+entered_unless c k (Some e) = refused c e
+entered_unless c k None = record c { pieces = first_pieces c k }
+
+-- a call without a number of its own is refused with ENOSYS
+abbrev pub entered_as : LxCall → Option Call → LxCall
+entered_as c (Some k) = entered_unless c k (first_refusal (refusals c k))
+entered_as c None = refused c errno.ENOSYS
+
+-- a call as SVC enters it
+abbrev pub entered : LxCall → LxCall
+entered c = entered_as c (call_of c.number)

@@ -1,0 +1,9 @@
+pub mod Descriptors
+pub mod Entry
+pub mod Files
+pub mod MemoryCalls
+pub mod ProcessCalls
+pub mod Shape
+pub mod Table
+pub mod Transfers
+pub mod Vectors

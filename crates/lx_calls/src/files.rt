@@ -1,0 +1,230 @@
+//! Open files, and what ends with them.
+ghost use Rattle.std.specs.Prelude.{◌≡◌, ◌<◌, ◌+◌, ◌^◌, ◌≤◌, drop, length, slice_set, IfSome, OnErr, OnOk};
+ghost use Rattle.std.specs.List.{list_any};
+ghost use Rattle.lx_machine.specs.Lists.{at_place, without_place, first_free, first_free_from};
+ghost use Rattle.lx_calls.specs.Files.{names, is_unnamed, is_read_end, is_write_end, is_open_as, has_reader, has_writer, without_pipe, after_end_of, without_file, ended_if_unnamed, settled, held_once_more, held_once_less, with_hold, given_back, with_descriptor, closed, with_file};
+
+use lx_machine::buffer::NoMemory;
+use lx_machine::files::{Descriptor, FileKind, Files, OpenFile};
+
+/// The lowest free place, where these are the places from `from` on.
+pub fn first_free_from<T>(from: u32, places: &[Option<T>]) -> Option<u32>
+    requires { from + length places.now < 2 ^ 32 }
+    ensures place { result ≡ first_free_from from places.now }
+    ensures fits { IfSome result (λ i. i < from + length places.now) }
+{
+    match places {
+        [] => None,
+        [None, ..] => Some(from),
+        [Some(_), rest @ ..] => first_free_from(from + 1, rest),
+    }
+}
+
+/// The lowest free place.
+pub fn first_free<T>(places: &[Option<T>]) -> Option<u32>
+    requires { length places.now < 2 ^ 32 }
+    ensures place { result ≡ first_free places.now }
+    ensures fits { IfSome result (λ i. i < length places.now) }
+{
+    first_free_from(0, places)
+}
+
+/// The lowest free place from `from` on.
+#[tactic(auto, using(std::proofs::lemmas::List::take_rest))]
+pub fn next_free<T>(places: &[Option<T>], from: u32) -> Option<u32>
+    requires from { from ≤ length places.now }
+    requires length { length places.now < 2 ^ 31 }
+    ensures place { result ≡ first_free_from from (drop from places.now) }
+    ensures fits { IfSome result (λ i. i < length places.now) }
+{
+    first_free_from(from, &places[from as usize..])
+}
+
+/// What stands at a place, if there is such a place and it isn't free.
+pub fn place_at<T: Copy>(places: &[Option<T>], at: u32) -> Option<T>
+    ensures { result ≡ at_place places.now at }
+{
+    match places.get(at as usize) {
+        Some(place) => *place,
+        None => None,
+    }
+}
+
+/// Sets a place, if there is one of this number.
+#[tactic(auto, using(std::proofs::lemmas::List::set_past))]
+pub fn set_place<T: Drop>(places: &mut [Option<T>], at: u32, place: Option<T>)
+    ensures { places.new ≡ slice_set places.old at place }
+{
+    let at = at as usize;
+    if at < places.len() {
+        places[at] = place;
+    }
+}
+
+/// Whether a descriptor names this open file.
+fn names(file: u32, descriptor: Option<Descriptor>) -> bool
+    ensures { result ≡ names file descriptor }
+{
+    match descriptor {
+        Some(d) => d.file == file,
+        None => false,
+    }
+}
+
+/// Whether some descriptor names the open file.
+fn is_named(files: &Files, file: u32) -> bool
+    ensures { result ≡ list_any (names file) files.now.descriptors }
+{
+    files.descriptors.iter().any(|d| names(file, *d))
+}
+
+/// Whether no descriptor and no hold names the open file any more.
+fn is_unnamed(files: &Files, file: u32, f: OpenFile) -> bool
+    ensures { result ≡ is_unnamed files.now file f }
+{
+    f.holds == 0 && !is_named(files, file)
+}
+
+/// Whether it is the read end of this pipe.
+fn is_read_end(pipe: u32, kind: FileKind) -> bool
+    ensures { result ≡ is_read_end pipe kind }
+{
+    match kind {
+        FileKind::PipeRead(p) => p == pipe,
+        _ => false,
+    }
+}
+
+/// Whether it is the write end of this pipe.
+fn is_write_end(pipe: u32, kind: FileKind) -> bool
+    ensures { result ≡ is_write_end pipe kind }
+{
+    match kind {
+        FileKind::PipeWrite(p) => p == pipe,
+        _ => false,
+    }
+}
+
+/// Whether the pipe has a reader.
+pub fn has_reader(files: &Files, pipe: u32) -> bool
+    ensures { result ≡ has_reader files.now pipe }
+{
+    files
+        .files
+        .iter()
+        .any(|f| f.is_some_and(|f| is_read_end(pipe, f.kind)))
+}
+
+/// Whether the pipe has a writer.
+pub fn has_writer(files: &Files, pipe: u32) -> bool
+    ensures { result ≡ has_writer files.now pipe }
+{
+    files
+        .files
+        .iter()
+        .any(|f| f.is_some_and(|f| is_write_end(pipe, f.kind)))
+}
+
+/// Lets the pipe go where neither of its ends lives.
+fn let_pipe_go(files: &mut Files, pipe: u32)
+    ensures { files.new ≡ without_pipe files.old pipe }
+{
+    if !(has_reader(files, pipe) || has_writer(files, pipe)) {
+        set_place(&mut files.pipes, pipe, None);
+    }
+}
+
+/// Lets go of what an open file of this kind was.
+fn end_kind(files: &mut Files, kind: FileKind)
+    ensures { files.new ≡ after_end_of kind files.old }
+{
+    match kind {
+        FileKind::PipeRead(pipe) => let_pipe_go(files, pipe),
+        FileKind::PipeWrite(pipe) => let_pipe_go(files, pipe),
+        FileKind::Counter(number) => set_place(&mut files.counters, number, None),
+        FileKind::Epoll(number) => set_place(&mut files.epolls, number, None),
+        FileKind::Input => {}
+        FileKind::Console(_) => {}
+    }
+}
+
+/// Ends an open file of this kind.
+fn end_file(files: &mut Files, file: u32, kind: FileKind)
+    ensures { files.new ≡ without_file files.old file kind }
+{
+    set_place(&mut files.files, file, None);
+    end_kind(files, kind);
+}
+
+/// Ends the open file where nothing names it any more.
+fn settle(files: &mut Files, file: u32)
+    ensures { files.new ≡ settled files.old file }
+{
+    if let Some(f) = place_at(&files.files, file) {
+        if is_unnamed(files, file, f) {
+            end_file(files, file, f.kind);
+        }
+    }
+}
+
+/// One more call holds the open file, which stands so. `NoMemory`: one more hold can't be counted; then nothing changes.
+pub fn hold_once(files: &mut Files, file: u32, f: OpenFile) -> Result<(), NoMemory>
+    ensures ok { OnOk result (files.new ≡ with_hold files.old file f) }
+    ensures err { OnErr result (files.new ≡ files.old) }
+    ensures full { OnErr result (f.holds ≡ u32.MAX) }
+{
+    if f.holds == u32::MAX {
+        return Err(NoMemory);
+    }
+    let held = OpenFile {
+        kind: f.kind,
+        nonblocking: f.nonblocking,
+        holds: f.holds + 1,
+    };
+    set_place(&mut files.files, file, Some(held));
+    Ok(())
+}
+
+/// A call gives the open file back.
+pub fn give_back(files: &mut Files, file: u32)
+    ensures { files.new ≡ given_back files.old file }
+{
+    if let Some(f) = place_at(&files.files, file) {
+        let left = OpenFile {
+            kind: f.kind,
+            nonblocking: f.nonblocking,
+            holds: f.holds.saturating_sub(1),
+        };
+        set_place(&mut files.files, file, Some(left));
+        settle(files, file);
+    }
+}
+
+/// A descriptor names this open file.
+pub fn set_descriptor(files: &mut Files, number: u32, d: Descriptor)
+    ensures { files.new ≡ with_descriptor files.old number d }
+{
+    set_place(&mut files.descriptors, number, Some(d));
+}
+
+/// Closes a descriptor, if it is open.
+pub fn close_descriptor(files: &mut Files, number: u32)
+    ensures { files.new ≡ closed files.old number }
+{
+    if let Some(d) = place_at(&files.descriptors, number) {
+        set_place(&mut files.descriptors, number, None);
+        settle(files, d.file);
+    }
+}
+
+/// Makes an open file that nothing names yet.
+pub fn add_file(files: &mut Files, file: u32, kind: FileKind, nonblocking: bool)
+    ensures { files.new ≡ with_file files.old file kind nonblocking }
+{
+    let made = OpenFile {
+        kind,
+        nonblocking,
+        holds: 0,
+    };
+    set_place(&mut files.files, file, Some(made));
+}

@@ -1,0 +1,55 @@
+-- Calls that have been entered: how they stand, and what follows of a result. Source: syscall(2), intro(2), errno(3).
+use Rattle.std.specs.Prelude.{ℕ, ◌%◌, ◌^◌, false, min, List, [], ◌∷◌, length, Option, Some, None, slice_index}
+use Rattle.linux_abi.specs.LinuxErrno.{answer_of}
+use Rattle.linux_abi.specs.declared.errno.LinuxErrno.{LinuxErrno}
+use Rattle.lx_machine.specs.Pieces.{piece}
+use Rattle.lx_machine.specs.declared.calls.LxCall.{LxCall}
+use Rattle.lx_machine.specs.declared.calls.Piece.{Piece}
+use Rattle.lx_machine.specs.declared.calls.Stage.{Stage}
+use Rattle.lx_machine.specs.declared.calls.Stage.TheVariants as stage
+
+-- an argument whole, a0 to a5
+abbrev pub argument : LxCall → ℕ → ℕ
+argument c i = slice_index c.arguments i
+
+-- the low 32 bits of an argument, unsigned
+abbrev pub low_argument : LxCall → ℕ → ℕ
+low_argument c i = argument c i % 2 ^ 32
+
+-- a call as SVC finds it: the number of x8 and these arguments
+abbrev pub new_call : ℕ → List ℕ → LxCall
+new_call number arguments = record {
+  number = number;
+  arguments = arguments;
+  fetched = 0;
+  pieces = [];
+  bytes = [];
+  moved = 0;
+  held = None;
+  deadline = None;
+  waits = false;
+  result = None;
+  kept = None;
+}
+
+-- the call has this result, and nothing to store
+abbrev pub answered : LxCall → ℕ → LxCall
+answered c n = record c { result = Some n; pieces = []; bytes = [] }
+
+-- the call has this result, and these bytes to store
+abbrev pub answered_with : LxCall → ℕ → List Piece → List ℕ → LxCall
+answered_with c n pieces bytes = record c { result = Some n; pieces = pieces; bytes = bytes }
+
+-- the call is refused
+abbrev pub refused : LxCall → LinuxErrno → LxCall
+refused c e = answered c (answer_of e)
+
+-- what a call with a result does next: it gives its hold back, stores its bytes piece by piece, and returns
+abbrev pub storing : List Piece → List ℕ → Stage
+storing [] bytes = stage.Return
+storing (p ∷ ps) [] = stage.Return
+storing (p ∷ ps) (b ∷ bs) = stage.Store (piece p.at (min p.len (length (b ∷ bs))))
+
+abbrev pub answered_stage : LxCall → Option ℕ → Stage
+answered_stage c (Some file) = stage.Drop
+answered_stage c None = storing c.pieces c.bytes

@@ -1,0 +1,34 @@
+-- MayTake, and what a signal does by default (signal(7)).
+use Rattle.std.specs.Prelude.{ℕ, ◌/◌, ◌%◌, ◌^◌, ◌==◌, Bool, ◌&&◌, nat_lt, if◌then◌else◌, List, [], ◌∷◌}
+use Rattle.std.proofs.Math.Bool.{not}
+use Rattle.std.specs.List.{list_any}
+use Rattle.linux_abi.specs.LinuxSig.{signal_number, linux_bit, is_real_time}
+use Rattle.linux_abi.specs.declared.signals.LinuxSig.{LinuxSig}
+use Rattle.lx_machine.specs.declared.signals.SigInfo.{SigInfo}
+
+-- a set of signals has this one
+abbrev pub has_signal : ℕ → LinuxSig → Bool
+has_signal set s = set / 2 ^ linux_bit s % 2 == 1
+
+abbrev pub is_of : LinuxSig → SigInfo → Bool
+is_of s info = signal_number info.signal == signal_number s
+
+-- an unblocked real-time signal of a lower number
+abbrev pub is_before : ℕ → LinuxSig → SigInfo → Bool
+is_before mask s info =
+    is_real_time info.signal && nat_lt (signal_number info.signal) (signal_number s) && not (has_signal mask info.signal)
+
+-- the pending signal of this number that was sent first may be taken: it is not blocked, and where it is a real-time
+-- signal, no unblocked one of a lower number is pending in the list
+abbrev pub may_take : ℕ → List SigInfo → LinuxSig → Bool
+may_take mask pending s =
+    list_any (is_of s) pending && not (has_signal mask s) && not (is_real_time s && list_any (is_before mask s) pending)
+
+-- some signal of the list is not blocked
+abbrev pub has_unblocked : ℕ → List SigInfo → Bool
+has_unblocked mask pending = list_any (λ info. not (has_signal mask info.signal)) pending
+
+-- the list without the signal of this number that was sent first
+abbrev pub without_signal : LinuxSig → List SigInfo → List SigInfo
+without_signal s [] = []
+without_signal s (info ∷ infos) = if is_of s info then infos else (info ∷ without_signal s infos)

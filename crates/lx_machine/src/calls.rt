@@ -1,0 +1,171 @@
+//! Calls that have been entered.
+ghost use Rattle.std.specs.Prelude.{◌≡◌, ◌<◌, [], ◌++◌, ◌∷◌, OnOk, OnErr};
+ghost use Rattle.lx_machine.specs.Pieces.{without_first};
+
+use crate::buffer::{Bytes, NoMemory};
+use crate::signals::Kept;
+use linux_abi::{LinuxErrno, answer};
+use std::alloc::Global;
+use std::marker::Model;
+
+/// A range of guest memory that a call copies in or out: its address and its length in bytes.
+#[derive(Clone, Copy, Debug, PartialEq, Eq)]
+pub struct Piece {
+    pub at: u64,
+    pub len: u64,
+}
+
+/// Pieces in order, which contracts see as a list.
+#[derive(Drop)]
+pub struct Pieces {
+    items: Vec<Piece>,
+}
+
+impl Model for Pieces {
+    ghost use Rattle.std.specs.Prelude.{List};
+    ghost use Rattle.lx_machine.specs.declared.calls.Piece.{Piece};
+
+    ghost Value = { List Piece };
+
+    ghost view = { λ p. p.items.items };
+}
+
+impl Pieces {
+    /// No pieces. Takes no memory.
+    pub fn none(alloc: Global) -> Pieces
+        ensures { result ≡ [] }
+    {
+        Pieces {
+            items: Vec::new(alloc),
+        }
+    }
+
+    /// The pieces.
+    pub fn as_slice(&self) -> &[Piece]
+        ensures { result.now ≡ self.now }
+    {
+        self.items.as_slice()
+    }
+
+    /// Puts a piece behind the others. Where memory is wanting, nothing changes.
+    pub fn push(&mut self, piece: Piece) -> Result<(), NoMemory>
+        ensures ok { OnOk result (self.new ≡ self.old ++ piece ∷ []) }
+        ensures err { OnErr result (self.new ≡ self.old) }
+    {
+        self.items.push(piece).map_err(|_| NoMemory)
+    }
+
+    /// Lets the first piece go, if there is one.
+    pub fn remove_first(&mut self)
+        ensures { self.new ≡ without_first self.old }
+    {
+        if !self.items.is_empty() {
+            self.items.remove(0);
+        }
+    }
+
+    /// Lets all pieces go.
+    pub fn clear(&mut self)
+        ensures { self.new ≡ [] }
+    {
+        self.items.clear();
+    }
+}
+
+/// A call that has been entered: its number and arguments, how many pieces it has fetched, the pieces that it has still
+/// to copy, the bytes that it has fetched or has still to store, how many bytes it has moved, its held open file, its
+/// deadline in microseconds, whether it waits, its result once it has one, in the form of x0, and the signal that ended
+/// its wait.
+#[derive(Drop)]
+pub struct LxCall {
+    pub number: u64,
+    pub arguments: [u64; 6],
+    pub fetched: u32,
+    pub pieces: Pieces,
+    pub bytes: Bytes,
+    pub moved: u64,
+    pub held: Option<u32>,
+    pub deadline: Option<u64>,
+    pub waits: bool,
+    pub result: Option<u64>,
+    pub kept: Option<Kept>,
+}
+
+impl LxCall {
+    ghost use Rattle.lx_machine.specs.Calls.{new_call, low_argument, answered, answered_with, refused};
+
+    /// A call as SVC finds it: the number of x8 and these arguments (syscall(2)). Takes no memory.
+    pub fn new(alloc: Global, number: u64, arguments: [u64; 6]) -> LxCall
+        ensures { result ≡ new_call number arguments }
+    {
+        LxCall {
+            number,
+            arguments,
+            fetched: 0,
+            pieces: Pieces::none(alloc),
+            bytes: Bytes::empty(alloc),
+            moved: 0,
+            held: None,
+            deadline: None,
+            waits: false,
+            result: None,
+            kept: None,
+        }
+    }
+
+    /// The low 32 bits of an argument.
+    pub fn low_argument(&self, at: usize) -> u32
+        requires { at < 6 }
+        ensures { result ≡ low_argument self.now at }
+    {
+        (self.arguments[at] % (1 << 32)) as u32
+    }
+
+    /// The call has this result, and nothing to store.
+    pub fn answer(&mut self, n: u64)
+        ensures { self.new ≡ answered self.old n }
+    {
+        self.result = Some(n);
+        self.pieces.clear();
+        self.bytes.clear();
+    }
+
+    /// The call has this result, and these bytes to store.
+    pub fn answer_with(&mut self, n: u64, pieces: Pieces, bytes: Bytes)
+        ensures { self.new ≡ answered_with self.old n pieces bytes }
+    {
+        self.result = Some(n);
+        self.pieces = pieces;
+        self.bytes = bytes;
+    }
+
+    /// The call is refused (errno(3)).
+    pub fn refuse(&mut self, e: LinuxErrno)
+        ensures { self.new ≡ refused self.old e }
+    {
+        self.answer(answer(e));
+    }
+}
+
+/// What a call does next.
+#[derive(Clone, Copy, Debug, PartialEq, Eq)]
+pub enum Stage {
+    /// Copies the piece in.
+    Fetch(Piece),
+    /// Finds and holds its open file.
+    Hold,
+    /// Gives the hold back.
+    Drop,
+    /// Has its effect.
+    Effect,
+    /// Moves bytes between itself and its open file.
+    Move,
+    /// Copies the piece out.
+    Store(Piece),
+    /// Ends its thread.
+    Leave,
+    /// Puts its result into x0.
+    Return,
+    /// Nothing: how this call goes on is not built.
+    NotBuilt,
+}

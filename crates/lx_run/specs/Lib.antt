@@ -1,0 +1,7 @@
+pub mod Accesses
+pub mod Places
+pub mod FirstStack
+pub mod Parts
+pub mod Stack
+pub mod Start
+pub mod Steps

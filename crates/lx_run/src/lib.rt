@@ -1,0 +1,11 @@
+//! The Linux machine in a form that runs, as far as it is built: `start::first_state` is the state in which a program
+//! starts, and `threads::instruction` the step Instr. The steps of calls are functions of `lx_calls` on parts of the state.
+#![tactic(auto)]
+
+pub mod access;
+pub mod instruction;
+pub mod stack;
+pub mod start;
+#[cfg(test)]
+mod tests;
+pub mod threads;
