@@ -176,7 +176,7 @@ fn access_mode(kind: FileKind) -> u64
 fn status(f: OpenFile) -> u64
     ensures { result ≡ status_of f }
 {
-    access_mode(f.kind) + u64::from(f.nonblocking) * 2048
+    access_mode(f.kind) + u64::from(f.nonblocking) * O_NONBLOCK
 }
 
 /// F_GETFL.

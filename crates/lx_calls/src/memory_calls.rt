@@ -2,7 +2,8 @@
 ghost use Rattle.std.specs.Prelude.{◌≡◌, ◌≤◌, ◌+◌, ◌*◌, ◌^◌, ◌<◌, Some, None, IfOk, OnErr, OnOk};
 ghost use Rattle.lx_calls.specs.MemoryCalls.{rights_of, refuses, raised, lowered, brk, mapped_at, mapped_fixed, mmap, munmap, mprotect, madvise, short_of_memory};
 
-use crate::entry::{is_fixed, pages_of};
+use crate::entry::{PAGE, is_fixed, pages_of};
+use linux_abi::memory::{PROT_EXEC, PROT_READ, PROT_WRITE};
 use linux_abi::{Call, LinuxErrno};
 use lx_machine::buffer::NoMemory;
 use lx_machine::calls::LxCall;
@@ -16,6 +17,9 @@ const LOWEST_PAGE: u64 = 16;
 
 /// The page behind the last one where such a mapping may lie.
 const HIGHEST_PAGE: u64 = 0x7_fff0_0000;
+
+/// The rights of the break's pages: PROT_READ and PROT_WRITE.
+const BREAK_RIGHTS: u32 = 3;
 
 /// MADV_DONTNEED (madvise(2)).
 const DONT_NEED: u32 = 4;
@@ -34,10 +38,11 @@ const NO_PAGES: PageRange = PageRange { first: 0, count: 0 };
 fn rights_of(n: u32) -> Rights
     ensures { result ≡ rights_of n }
 {
+    let n = u64::from(n);
     Rights {
-        read: n % 2 == 1,
-        write: n / 2 % 2 == 1,
-        execute: n / 4 % 2 == 1,
+        read: n / PROT_READ % 2 == 1,
+        write: n / PROT_WRITE % 2 == 1,
+        execute: n / PROT_EXEC % 2 == 1,
     }
 }
 
@@ -52,7 +57,7 @@ fn raise(space: &mut Space, call: &mut LxCall, at: u64) -> Result<PageRange, NoM
     if all_free(&space.pages, first, count) {
         space
             .pages
-            .map(first, count, rights_of(3))
+            .map(first, count, rights_of(BREAK_RIGHTS))
             .map_err(|_| NoMemory)?;
         space.break_at = at;
         call.answer(at);
@@ -103,7 +108,7 @@ fn map_at(space: &mut Space, call: &mut LxCall, first: u64) -> Result<PageRange,
     let count = pages_of(call.arguments[1]);
     let rights = rights_of(call.low_argument(2));
     space.pages.map(first, count, rights).map_err(|_| NoMemory)?;
-    call.answer(first * 4096);
+    call.answer(first * PAGE);
     Ok(PageRange { first, count })
 }
 
@@ -112,7 +117,7 @@ fn map_fixed(space: &mut Space, call: &mut LxCall) -> Result<PageRange, NoMemory
     ensures ok { IfOk result (λ range. mapped_fixed space.old call.old ≡ record { space = space.new; call = call.new; first = range.first; count = range.count }) }
     ensures err { OnErr result ((space.new ≡ space.old) × (call.new ≡ call.old)) }
 {
-    let first = call.arguments[0] / 4096;
+    let first = call.arguments[0] / PAGE;
     if any_executable(&space.pages, first, pages_of(call.arguments[1])) {
         call.refuse(LinuxErrno::EACCES);
         return Ok(NO_PAGES);
@@ -142,7 +147,7 @@ pub fn mmap(space: &mut Space, call: &mut LxCall) -> Result<PageRange, NoMemory>
 pub fn munmap(space: &mut Space, call: &mut LxCall) -> PageRange
     ensures { munmap space.old call.old ≡ record { space = space.new; call = call.new; first = result.first; count = result.count } }
 {
-    let first = call.arguments[0] / 4096;
+    let first = call.arguments[0] / PAGE;
     let count = pages_of(call.arguments[1]);
     if any_executable(&space.pages, first, count) {
         call.refuse(LinuxErrno::EACCES);
@@ -157,7 +162,7 @@ pub fn munmap(space: &mut Space, call: &mut LxCall) -> PageRange
 pub fn mprotect(space: &mut Space, call: &mut LxCall)
     ensures { mprotect space.old call.old ≡ record { space = space.new; call = call.new; first = 0; count = 0 } }
 {
-    let first = call.arguments[0] / 4096;
+    let first = call.arguments[0] / PAGE;
     let count = pages_of(call.arguments[1]);
     if !all_mapped(&space.pages, first, count) {
         call.refuse(LinuxErrno::ENOMEM);
@@ -177,7 +182,7 @@ pub fn mprotect(space: &mut Space, call: &mut LxCall)
 pub fn madvise(space: &mut Space, call: &mut LxCall) -> PageRange
     ensures { madvise space.old call.old ≡ record { space = space.new; call = call.new; first = result.first; count = result.count } }
 {
-    let first = call.arguments[0] / 4096;
+    let first = call.arguments[0] / PAGE;
     let count = pages_of(call.arguments[1]);
     if !all_mapped(&space.pages, first, count) {
         call.refuse(LinuxErrno::ENOMEM);
