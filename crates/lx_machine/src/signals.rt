@@ -95,7 +95,9 @@ impl Pending {
     pub fn has(&self, signal: LinuxSig) -> bool
         ensures { result ≡ list_any (is_of signal) self.now }
     {
-        self.infos.iter().any(|info| info.signal.number() == signal.number())
+        self.infos
+            .iter()
+            .any(|info| info.signal.number() == signal.number())
     }
 
     /// Puts a signal behind the others. `NoMemory`: `MOST_PENDING` of them are there; then nothing changes.

@@ -38,7 +38,13 @@ fn unmark_other(is_writer: bool, place: &mut Option<LxThread>, first: u64, last:
 }
 
 /// Ends the marks of the threads in the slots from `at` on that lie in these granules, but for the thread in `slot`.
-fn unmark_from(at: usize, slot: u8, first: u64, last: u64, threads: &mut [Option<LxThread>])
+fn unmark_from(
+    at: usize,
+    slot: u8,
+    first: u64,
+    last: u64,
+    threads: &mut [Option<LxThread>],
+)
     requires { at + length threads.old < 2 ^ 64 }
     ensures { threads.new ≡ unmarked_from at slot first last threads.old }
 {
