@@ -87,8 +87,7 @@ fn start_of_e1(rt: HostRuntime) -> Result<(), Fail> {
     assert_eq!(rt; sp_and_pc(&state), Some((SP, 0x40_0078)));
     assert_eq!(rt; SP % 16, 0);
     assert_eq!(rt; state.space.break_at, 0x40_1000);
-    let memory = state.space.pages;
-    assert!(rt; has_table(&memory));
+    assert!(rt; has_table(&state.space.pages));
     for (at, number) in [
         (RANDOM, 7),
         (RANDOM.saturating_add(8), 0x9e37_79b9_7f4a_7c12),
@@ -96,7 +95,7 @@ fn start_of_e1(rt: HostRuntime) -> Result<(), Fail> {
         (0x7fff_ff00_0000, 0xd400_0001_d280_1168),
         (0x40_0078, 0xd280_0ba8_d280_0540),
     ] {
-        assert_eq!(rt; number_at(&memory, at), Some(number));
+        assert_eq!(rt; number_at(&state.space.pages, at), Some(number));
     }
     Ok(())
 }
