@@ -1,6 +1,6 @@
 -- The first stack: what a program finds at sp. Source: the arm64 ABI as Linux has it (getauxval(3), execve(2)); which bytes
 -- lie where above the table, and the numbers of ids, are this project's own.
-use Rattle.std.specs.Prelude.{ℕ, suc, ◌+◌, ◌-◌, ◌*◌, ◌/◌, ◌%◌, ◌^◌, List, [], ◌∷◌, ◌++◌, length, replicate, bit_xor}
+use Rattle.std.specs.Prelude.{ℕ, suc, ◌+◌, ◌-◌, ◌*◌, ◌/◌, List, [], ◌∷◌, ◌++◌, length, replicate, bit_xor}
 use Rattle.places.specs.Places.{bytes_of}
 
 -- where the stack ends; the page of the return code stands there

@@ -1,6 +1,6 @@
 -- Start(image, args, input, seed): the state in which a program starts. Source: execve(2), ELF-64; the stack's size, the
 -- return code above it, and that the code is readable are this project's own.
-use Rattle.std.specs.Prelude.{ℕ, suc, ◌+◌, ◌-◌, ◌*◌, ◌/◌, ◌%◌, ◌^◌, Bool, true, false, ◌||◌, max, List, [], ◌∷◌, ◌++◌, length, replicate, Option, Some, None}
+use Rattle.std.specs.Prelude.{ℕ, ◌+◌, ◌-◌, ◌*◌, ◌/◌, true, false, ◌||◌, max, List, [], ◌∷◌, ◌++◌, replicate, Option, Some, None}
 use Rattle.std.specs.FinMap as map
 use Rattle.vm_areas.specs.declared.runs.Rights.{Rights}
 use Rattle.page_store.specs.Pages.{Pages}
