@@ -4,5 +4,6 @@ pub mod Filled
 pub mod FirstStack
 pub mod Mapped
 pub mod Nones
+pub mod Pushed
 pub mod Small
 pub mod Started

@@ -68,13 +68,10 @@ fn push_text(bytes: &mut Vec<u8>, text: &[u8]) -> Result<(), AllocError>
 fn push_texts(bytes: &mut Vec<u8>, texts: &[String]) -> Result<(), AllocError>
     ensures { OnOk result (bytes.new.items ≡ bytes.old.items ++ spec.ended_texts (map string_bytes texts.now)) }
 {
-    match texts {
-        [] => Ok(()),
-        [text, rest @ ..] => {
-            push_text(bytes, text.as_bytes())?;
-            push_texts(bytes, rest)
-        }
+    for text in texts {
+        push_text(bytes, text.as_bytes())?;
     }
+    Ok(())
 }
 
 /// Appends 16 bytes at random (AT_RANDOM).
@@ -133,13 +130,12 @@ fn push_places(words: &mut Vec<u64>, at: u64, texts: &[String]) -> Result<(), Al
     requires { at + length (spec.ended_texts (map string_bytes texts.now)) < 2 ^ 64 }
     ensures { OnOk result (words.new.items ≡ words.old.items ++ spec.argument_places at (map string_bytes texts.now)) }
 {
-    match texts {
-        [] => Ok(()),
-        [text, rest @ ..] => {
-            words.push(at)?;
-            push_places(words, at + text.len() as u64 + 1, rest)
-        }
+    let mut next = at;
+    for text in texts {
+        words.push(next)?;
+        next += text.len() as u64 + 1;
     }
+    Ok(())
 }
 
 /// The auxiliary vector (getauxval(3)).
@@ -215,13 +211,10 @@ fn table_of(
 fn push_words(bytes: &mut Vec<u8>, words: &[u64]) -> Result<(), AllocError>
     ensures { OnOk result (bytes.new.items ≡ bytes.old.items ++ spec.words words.now) }
 {
-    match words {
-        [] => Ok(()),
-        [word, rest @ ..] => {
-            bytes.extend_from_slice(&word.to_le_bytes())?;
-            push_words(bytes, rest)
-        }
+    for word in words {
+        bytes.extend_from_slice(&word.to_le_bytes())?;
     }
+    Ok(())
 }
 
 /// The bytes of words.
