@@ -27,6 +27,9 @@ const STACK_BYTES: usize = 0x4_0000;
 
 const STACK_WORDS: usize = 0x8000;
 
+/// What stands above the image name: its zero byte, and 8 more.
+const NAME_END: u64 = 9;
+
 /// The bits of 2^64 over the golden ratio, which the second half of the random bytes has turned.
 const GOLDEN: u64 = 0x9e37_79b9_7f4a_7c15;
 
@@ -83,11 +86,7 @@ fn push_random(bytes: &mut Vec<u8>, seed: u64) -> Result<(), AllocError>
 }
 
 /// Appends the arguments, the image name behind them, and 8 zero bytes.
-fn push_words_of_start(
-    bytes: &mut Vec<u8>,
-    name: &[u8],
-    arguments: &[String],
-) -> Result<(), AllocError>
+fn push_all_texts(bytes: &mut Vec<u8>, name: &[u8], arguments: &[String]) -> Result<(), AllocError>
     ensures { OnOk result (bytes.new.items ≡ bytes.old.items ++ spec.texts name.now (map string_bytes arguments.now)) }
 {
     push_texts(bytes, arguments)?;
@@ -106,7 +105,7 @@ fn bytes_above(
 {
     let mut bytes = Vec::new(alloc);
     push_random(&mut bytes, seed)?;
-    push_words_of_start(&mut bytes, name, arguments)?;
+    push_all_texts(&mut bytes, name, arguments)?;
     Ok(bytes)
 }
 
@@ -121,7 +120,7 @@ fn texts_of(alloc: Global, name: &[u8], arguments: &[String], seed: u64) -> Resu
         return Err(NoMemory);
     }
     let at = STACK_END - bytes.len() as u64;
-    let name_at = STACK_END - 9 - name.len() as u64;
+    let name_at = STACK_END - NAME_END - name.len() as u64;
     Ok(Texts { at, name_at, bytes })
 }
 

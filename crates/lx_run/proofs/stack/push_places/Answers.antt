@@ -1,5 +1,5 @@
-use Rattle.std.proofs.Common.{◌≡◌, ◌+◌, ◌++◌, [], ◌∷◌, length, map, take, string_bytes, arith, sym, ap}
-use Rattle.std.specs.Prelude.{List, ℕ}
+use Rattle.std.proofs.Common.{◌+◌, [], ◌∷◌, string_bytes, arith, sym, ap}
+use Rattle.std.specs.Prelude.{ℕ}
 use Rattle.lx_run.proofs.Pushed.{pushed_place, pushed_length, first_length, behind}
 use Rattle.lx_run.proofs.stack.push_places.Goals as goal
 
@@ -15,5 +15,5 @@ loop-text-preserved c =
     record {
       next = omega (arith, more, c.loop-text.invariant.next);
       places = behind _ _ _ _ _ _ _ c.loop-text.invariant.places c.in_ok-push.ensures.items (ap (λ (at : ℕ). at ∷ []) c.loop-text.invariant.next)
-        (pushed_place string_bytes c.args.at c.args.texts.now c.loop-text.text-index c.text-item.result c.loop-text-test.true (sym c.text-item.is));
+          (pushed_place string_bytes c.args.at c.args.texts.now c.loop-text.text-index c.text-item.result c.loop-text-test.true (sym c.text-item.is));
     }

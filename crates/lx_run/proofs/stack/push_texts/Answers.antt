@@ -1,4 +1,4 @@
-use Rattle.std.proofs.Common.{◌≡◌, [], ◌∷◌, ◌++◌, string_bytes, sym, ap}
+use Rattle.std.proofs.Common.{[], ◌∷◌, ◌++◌, string_bytes, sym, ap}
 use Rattle.std.specs.Prelude.{List, ℕ}
 use Rattle.lx_run.proofs.Pushed.{pushed_text, behind}
 use Rattle.lx_run.proofs.stack.push_texts.Goals as goal
