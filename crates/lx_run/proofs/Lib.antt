@@ -5,5 +5,6 @@ pub mod Instructed
 pub mod FirstStack
 pub mod Mapped
 pub mod Nones
+pub mod Pushed
 pub mod Small
 pub mod Started

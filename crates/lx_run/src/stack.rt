@@ -27,6 +27,9 @@ const STACK_BYTES: usize = 0x4_0000;
 
 const STACK_WORDS: usize = 0x8000;
 
+/// What stands above the image name: its zero byte, and 8 more.
+const NAME_END: u64 = 9;
+
 /// The bits of 2^64 over the golden ratio, which the second half of the random bytes has turned.
 const GOLDEN: u64 = 0x9e37_79b9_7f4a_7c15;
 
@@ -68,13 +71,10 @@ fn push_text(bytes: &mut Vec<u8>, text: &[u8]) -> Result<(), AllocError>
 fn push_texts(bytes: &mut Vec<u8>, texts: &[String]) -> Result<(), AllocError>
     ensures { OnOk result (bytes.new.items ≡ bytes.old.items ++ spec.ended_texts (map string_bytes texts.now)) }
 {
-    match texts {
-        [] => Ok(()),
-        [text, rest @ ..] => {
-            push_text(bytes, text.as_bytes())?;
-            push_texts(bytes, rest)
-        }
+    for text in texts {
+        push_text(bytes, text.as_bytes())?;
     }
+    Ok(())
 }
 
 /// Appends 16 bytes at random (AT_RANDOM).
@@ -86,11 +86,7 @@ fn push_random(bytes: &mut Vec<u8>, seed: u64) -> Result<(), AllocError>
 }
 
 /// Appends the arguments, the image name behind them, and 8 zero bytes.
-fn push_words_of_start(
-    bytes: &mut Vec<u8>,
-    name: &[u8],
-    arguments: &[String],
-) -> Result<(), AllocError>
+fn push_all_texts(bytes: &mut Vec<u8>, name: &[u8], arguments: &[String]) -> Result<(), AllocError>
     ensures { OnOk result (bytes.new.items ≡ bytes.old.items ++ spec.texts name.now (map string_bytes arguments.now)) }
 {
     push_texts(bytes, arguments)?;
@@ -109,7 +105,7 @@ fn bytes_above(
 {
     let mut bytes = Vec::new(alloc);
     push_random(&mut bytes, seed)?;
-    push_words_of_start(&mut bytes, name, arguments)?;
+    push_all_texts(&mut bytes, name, arguments)?;
     Ok(bytes)
 }
 
@@ -124,7 +120,7 @@ fn texts_of(alloc: Global, name: &[u8], arguments: &[String], seed: u64) -> Resu
         return Err(NoMemory);
     }
     let at = STACK_END - bytes.len() as u64;
-    let name_at = STACK_END - 9 - name.len() as u64;
+    let name_at = STACK_END - NAME_END - name.len() as u64;
     Ok(Texts { at, name_at, bytes })
 }
 
@@ -133,13 +129,12 @@ fn push_places(words: &mut Vec<u64>, at: u64, texts: &[String]) -> Result<(), Al
     requires { at + length (spec.ended_texts (map string_bytes texts.now)) < 2 ^ 64 }
     ensures { OnOk result (words.new.items ≡ words.old.items ++ spec.argument_places at (map string_bytes texts.now)) }
 {
-    match texts {
-        [] => Ok(()),
-        [text, rest @ ..] => {
-            words.push(at)?;
-            push_places(words, at + text.len() as u64 + 1, rest)
-        }
+    let mut next = at;
+    for text in texts {
+        words.push(next)?;
+        next += text.len() as u64 + 1;
     }
+    Ok(())
 }
 
 /// The auxiliary vector (getauxval(3)).
@@ -215,13 +210,10 @@ fn table_of(
 fn push_words(bytes: &mut Vec<u8>, words: &[u64]) -> Result<(), AllocError>
     ensures { OnOk result (bytes.new.items ≡ bytes.old.items ++ spec.words words.now) }
 {
-    match words {
-        [] => Ok(()),
-        [word, rest @ ..] => {
-            bytes.extend_from_slice(&word.to_le_bytes())?;
-            push_words(bytes, rest)
-        }
+    for word in words {
+        bytes.extend_from_slice(&word.to_le_bytes())?;
     }
+    Ok(())
 }
 
 /// The bytes of words.

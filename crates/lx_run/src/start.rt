@@ -29,7 +29,7 @@ use vm_areas::Rights;
 /// The bytes of a page.
 const PAGE: u64 = 4096;
 
-/// How many pages a program has room for: 1 GiB.
+/// How many pages there is room for: 1 GiB.
 const ROOM: u32 = 262_144;
 
 /// The tid of the first thread.
@@ -215,19 +215,21 @@ fn first_open_files() -> [Option<OpenFile>; OPEN_FILES]
     files
 }
 
-/// No pipe, no counter and no epoll.
+/// No pipe.
 fn no_pipes() -> [Option<Room>; PIPES]
     ensures { result ≡ replicate 64 None }
 {
     from_fn(|_| None)
 }
 
+/// No eventfd counter.
 fn no_counters() -> [Option<Counter>; OPEN_FILES]
     ensures { result ≡ replicate 288 None }
 {
     [None; OPEN_FILES]
 }
 
+/// No epoll.
 fn no_epolls() -> [Option<Interests>; EPOLLS]
     ensures { result ≡ replicate 32 None }
 {

@@ -63,32 +63,39 @@ fn started(alloc: Global) -> Result<LinuxState, Fail> {
     Ok(state.map_err(|_| "no memory")?)
 }
 
+/// sp and pc of the first thread.
+fn sp_and_pc(state: &LinuxState) -> Option<(u64, u64)> {
+    let thread = state.threads[0].as_ref()?;
+    Some((thread.regs.sp, thread.regs.pc))
+}
+
+/// The table stands at sp.
+fn has_table(memory: &Memory) -> bool {
+    let mut at = SP;
+    for word in TABLE {
+        if number_at(memory, at) != Some(word) {
+            return false;
+        }
+        at = at.saturating_add(8);
+    }
+    true
+}
+
 #[test]
 fn start_of_e1(rt: HostRuntime) -> Result<(), Fail> {
     let state = started(rt.alloc())?;
-    let memory = &state.space.pages;
-    let thread = state.threads[0].as_ref().ok_or("no thread")?;
-    assert_eq!(rt; (thread.regs.sp, thread.regs.pc), (SP, 0x40_0078));
+    assert_eq!(rt; sp_and_pc(&state), Some((SP, 0x40_0078)));
     assert_eq!(rt; SP % 16, 0);
-    let mut at = SP;
-    for word in TABLE {
-        assert_eq!(rt; number_at(memory, at), Some(word));
-        at = at.saturating_add(8);
-    }
-    assert_eq!(rt; number_at(memory, RANDOM), Some(7));
-    assert_eq!(rt;
-        number_at(memory, RANDOM.saturating_add(8)),
-        Some(0x9e37_79b9_7f4a_7c12)
-    );
-    assert_eq!(rt;
-        number_at(memory, ARGUMENT),
-        Some(u64::from_le_bytes(*b"a\0e1\0\0\0\0"))
-    );
-    assert_eq!(rt;
-        number_at(memory, 0x7fff_ff00_0000),
-        Some(0xd400_0001_d280_1168)
-    );
-    assert_eq!(rt; number_at(memory, 0x40_0078), Some(0xd280_0ba8_d280_0540));
     assert_eq!(rt; state.space.break_at, 0x40_1000);
+    assert!(rt; has_table(&state.space.pages));
+    for (at, number) in [
+        (RANDOM, 7),
+        (RANDOM.saturating_add(8), 0x9e37_79b9_7f4a_7c12),
+        (ARGUMENT, u64::from_le_bytes(*b"a\0e1\0\0\0\0")),
+        (0x7fff_ff00_0000, 0xd400_0001_d280_1168),
+        (0x40_0078, 0xd280_0ba8_d280_0540),
+    ] {
+        assert_eq!(rt; number_at(&state.space.pages, at), Some(number));
+    }
     Ok(())
 }
