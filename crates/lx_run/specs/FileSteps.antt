@@ -66,8 +66,8 @@ effect_at F c _ = None
 abbrev pub outcome_at : FileStep → Files → LxCall → Stage → Option Outcome
 outcome_at step.Hold F c st = hold_at F c st
 outcome_at step.Drop F c st = let_go_at F c st
-outcome_at step.Move F c st = move_at F c st
-outcome_at step.Effect F c st = effect_at F c st
+outcome_at (step.Move alloc) F c st = move_at F c st
+outcome_at (step.Effect alloc) F c st = effect_at F c st
 
 -- a pipe breaks only where SIGPIPE has room
 abbrev pub WithRoom : Bool → Result Bool LxRefusal → Type 0

@@ -1,5 +1,5 @@
 //! The steps of calls that change files: Hold, Drop and Move of the transfers, and Effect of the calls on descriptors.
-ghost use Rattle.std.specs.Prelude.{◌≡◌, true, if◌then◌else◌};
+ghost use Rattle.std.specs.Prelude.{◌≡◌, true, if◌then◌else◌, []};
 ghost use Rattle.std.specs.Option.{option_map};
 ghost use Rattle.linux_abi.specs.Call.{call_of};
 ghost use Rattle.lx_machine.specs.Step as step;
@@ -28,8 +28,8 @@ use std::alloc::Global;
 enum FileStep {
     Hold,
     Drop,
-    Move,
-    Effect,
+    Move(Global),
+    Effect(Global),
 }
 
 /// Hold, where it is the call's stage.
@@ -120,7 +120,6 @@ fn effect_at(
 /// A step of a call.
 fn step_call(
     step: FileStep,
-    alloc: Global,
     files: &mut Files,
     call: &mut LxCall,
     has_room: bool,
@@ -132,15 +131,14 @@ fn step_call(
     match step {
         FileStep::Hold => hold_at(files, call, stage),
         FileStep::Drop => let_go_at(files, call, stage),
-        FileStep::Move => move_at(alloc, files, call, stage, has_room),
-        FileStep::Effect => effect_at(alloc, files, call, stage),
+        FileStep::Move(alloc) => move_at(alloc, files, call, stage, has_room),
+        FileStep::Effect(alloc) => effect_at(alloc, files, call, stage),
     }
 }
 
 /// A step of the call that a thread is in, if it is in one.
 fn step_in(
     step: FileStep,
-    alloc: Global,
     files: &mut Files,
     place: &mut Option<LxCall>,
     has_room: bool,
@@ -149,7 +147,7 @@ fn step_in(
     ensures room { WithRoom has_room result }
 {
     match place {
-        Some(call) => step_call(step, alloc, files, call, has_room),
+        Some(call) => step_call(step, files, call, has_room),
         None => Err(LxRefusal::NoStep),
     }
 }
@@ -167,7 +165,6 @@ fn break_pipe(pending: &mut Pending, is_ignored: bool, broken: bool)
 /// A step of a thread's call.
 fn step_thread(
     step: FileStep,
-    alloc: Global,
     files: &mut Files,
     thread: &mut LxThread,
     is_ignored: bool,
@@ -175,7 +172,7 @@ fn step_thread(
     ensures { Goes (thread_step step is_ignored files.old thread.old) (with_part files.old thread.old) (with_part files.new thread.new) result }
 {
     let has_room = transfers::has_room_for_broken_pipe(&thread.pending, is_ignored);
-    let broken = step_in(step, alloc, files, &mut thread.call, has_room)?;
+    let broken = step_in(step, files, &mut thread.call, has_room)?;
     break_pipe(&mut thread.pending, is_ignored, broken);
     Ok(())
 }
@@ -183,7 +180,6 @@ fn step_thread(
 /// A step of the call of the thread in this place.
 fn step_place(
     step: FileStep,
-    alloc: Global,
     files: &mut Files,
     place: &mut Option<LxThread>,
     is_ignored: bool,
@@ -191,7 +187,7 @@ fn step_place(
     ensures { Goes (place_step step is_ignored files.old place.old) (with_part files.old place.old) (with_part files.new place.new) result }
 {
     match place {
-        Some(thread) => step_thread(step, alloc, files, thread, is_ignored),
+        Some(thread) => step_thread(step, files, thread, is_ignored),
         None => Err(LxRefusal::NoStep),
     }
 }
@@ -200,7 +196,6 @@ fn step_place(
 #[tactic(auto, using(crate::proofs::Instructed::got, crate::proofs::Instructed::not_got, crate::proofs::Instructed::set_back))]
 fn step_slot(
     step: FileStep,
-    alloc: Global,
     files: &mut Files,
     threads: &mut [Option<LxThread>; THREADS],
     slot: u8,
@@ -212,18 +207,45 @@ fn step_slot(
     if at >= THREADS {
         return Err(LxRefusal::NoStep);
     }
-    step_place(step, alloc, files, &mut threads[at], is_ignored)
+    step_place(step, files, &mut threads[at], is_ignored)
 }
 
 /// A step of the state.
 fn step_state(
     step: FileStep,
     state: &mut LinuxState,
-    alloc: Global,
     slot: u8,
 ) -> Result<(), LxRefusal>
     ensures { Steps (state_step step state.old slot) state.old state.new result }
 {
     let is_ignored = state.actions[12].handler == 1;
-    step_slot(step, alloc, &mut state.files, &mut state.threads, slot, is_ignored)
+    step_slot(step, &mut state.files, &mut state.threads, slot, is_ignored)
+}
+
+/// Hold: a transfer finds its open file and holds it, or is refused.
+pub fn hold(state: &mut LinuxState, slot: u8) -> Result<(), LxRefusal>
+    ensures { Steps (in_call stage_of state.old slot (step.hold effects state.old slot)) state.old state.new result }
+{
+    step_state(FileStep::Hold, state, slot)
+}
+
+/// Drop: a refused transfer gives its open file back.
+pub fn let_go(state: &mut LinuxState, slot: u8) -> Result<(), LxRefusal>
+    ensures { Steps (in_call stage_of state.old slot (step.let_go effects state.old slot)) state.old state.new result }
+{
+    step_state(FileStep::Drop, state, slot)
+}
+
+/// Move: bytes move between a transfer and its open file, and SIGPIPE becomes pending where a pipe has no reader.
+pub fn move_bytes(state: &mut LinuxState, alloc: Global, slot: u8) -> Result<(), LxRefusal>
+    ensures { Steps (in_call stage_of state.old slot (step.move effects [] state.old slot)) state.old state.new result }
+{
+    step_state(FileStep::Move(alloc), state, slot)
+}
+
+/// Effect of a call on descriptors: eventfd2, dup, dup3, fcntl, ioctl, close, pipe2 or lseek.
+pub fn effect_on_files(state: &mut LinuxState, alloc: Global, slot: u8) -> Result<(), LxRefusal>
+    ensures { Steps (in_call stage_of state.old slot (file_effect state.old slot)) state.old state.new result }
+{
+    step_state(FileStep::Effect(alloc), state, slot)
 }
