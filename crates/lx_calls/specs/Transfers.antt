@@ -246,6 +246,10 @@ abbrev pub with_broken_pipe : Bool → List SigInfo → List SigInfo
 with_broken_pipe ignored pending =
     if ignored || list_any (is_of signal.SIGPIPE) pending then pending else pending ++ broken_pipe ∷ []
 
+-- SIGPIPE can become pending so: the list holds at most 95 signals
+abbrev pub has_room_for_broken_pipe : Bool → List SigInfo → Bool
+has_room_for_broken_pipe ignored pending = ignored || list_any (is_of signal.SIGPIPE) pending || not (length pending == 95)
+
 -- ---- the steps of the thread t in slot s
 
 -- the thread after a move: SIGPIPE is pending where a pipe broke

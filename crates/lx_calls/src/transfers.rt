@@ -1,6 +1,6 @@
 //! The steps of read(2), write(2), readv(2) and writev(2) that hold an open file, give it back, and move bytes.
-ghost use Rattle.std.specs.Prelude.{◌≡◌, Some, None, OnErr, OnOk};
-ghost use Rattle.lx_calls.specs.Transfers.{outcome, is_read, direction_refusal, hold_file, held, lets_go, dropped, waits, ends_with, ends_refused, move_file, moved, Makes, with_broken_pipe};
+ghost use Rattle.std.specs.Prelude.{◌≡◌, false, Some, None, OnErr, OnOk};
+ghost use Rattle.lx_calls.specs.Transfers.{outcome, is_read, direction_refusal, hold_file, held, lets_go, dropped, waits, ends_with, ends_refused, move_file, moved, Makes, has_room_for_broken_pipe, with_broken_pipe};
 
 use crate::files::{give_back, hold_once, place_at};
 use crate::reads::read_move;
@@ -158,11 +158,19 @@ pub fn move_bytes(alloc: Global, files: &mut Files, call: &mut LxCall) -> Result
     }
 }
 
+/// Whether SIGPIPE can become pending: it is ignored or pending already, or there is room for it.
+pub fn has_room_for_broken_pipe(pending: &Pending, is_ignored: bool) -> bool
+    ensures { result ≡ has_room_for_broken_pipe is_ignored pending.now }
+{
+    is_ignored || pending.has(LinuxSig::SIGPIPE) || !pending.is_full()
+}
+
 /// SIGPIPE becomes pending for a thread whose pipe broke (write(2)), unless it is ignored or pending already. `NoMemory`:
 /// as many signals are pending as can be; then nothing changes.
 pub fn send_broken_pipe(pending: &mut Pending, is_ignored: bool) -> Result<(), NoMemory>
     ensures ok { OnOk result (pending.new ≡ with_broken_pipe is_ignored pending.old) }
     ensures err { OnErr result (pending.new ≡ pending.old) }
+    ensures full { OnErr result (has_room_for_broken_pipe is_ignored pending.old ≡ false) }
 {
     if is_ignored || pending.has(LinuxSig::SIGPIPE) {
         return Ok(());

@@ -1,5 +1,5 @@
 //! Signals, their information and their actions, in Linux numbers (signal(7), sigaction(2)).
-ghost use Rattle.std.specs.Prelude.{◌≡◌, ◌<◌, ◌++◌, ◌∷◌, [], length, OnErr, OnOk};
+ghost use Rattle.std.specs.Prelude.{◌≡◌, ◌<◌, ◌==◌, ◌++◌, ◌∷◌, [], length, OnErr, OnOk};
 
 use crate::buffer::NoMemory;
 use crate::label::PendingList;
@@ -98,6 +98,13 @@ impl Pending {
         self.infos
             .iter()
             .any(|info| info.signal.number() == signal.number())
+    }
+
+    /// Whether `MOST_PENDING` signals are there.
+    pub fn is_full(&self) -> bool
+        ensures { result ≡ (length self.now == MOST_PENDING) }
+    {
+        self.infos.is_full()
     }
 
     /// Puts a signal behind the others. `NoMemory`: `MOST_PENDING` of them are there; then nothing changes.

@@ -1,5 +1,6 @@
 pub mod Answering
 pub mod Exchanged
+pub mod FileStepped
 pub mod Filled
 pub mod Instructed
 pub mod FirstStack

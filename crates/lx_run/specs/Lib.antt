@@ -1,5 +1,6 @@
 pub mod Accesses
 pub mod Places
+pub mod FileSteps
 pub mod FirstStack
 pub mod Parts
 pub mod Stack

@@ -3,6 +3,7 @@
 #![tactic(auto)]
 
 pub mod access;
+pub mod file_steps;
 pub mod instruction;
 pub mod stack;
 pub mod start;
