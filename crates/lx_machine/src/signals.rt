@@ -123,7 +123,6 @@ fn place_of(signal: LinuxSig, infos: &[SigInfo]) -> usize
 }
 
 impl Pending {
-
     /// No signals. Takes no memory.
     pub fn empty() -> Pending
         ensures { result ≡ [] }
