@@ -4,6 +4,7 @@ pub mod Filled
 pub mod Instructed
 pub mod FirstStack
 pub mod Mapped
+pub mod MemoryStepped
 pub mod Nones
 pub mod Small
 pub mod Started

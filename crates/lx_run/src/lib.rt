@@ -4,6 +4,7 @@
 
 pub mod access;
 pub mod instruction;
+pub mod memory_steps;
 pub mod stack;
 pub mod start;
 #[cfg(test)]
