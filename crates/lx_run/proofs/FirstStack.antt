@@ -5,8 +5,8 @@ use Rattle.places.specs.Places.{bytes_of}
 use Rattle.places.proofs.Numbers.{length-bytes_of}
 use Rattle.lx_run.specs.declared.stack.Texts.{Texts}
 use Rattle.lx_run.specs.declared.stack.FirstStack.{FirstStack}
-use Rattle.lx_run.specs.Stack.{Headers, stack_end, argument_places, auxiliary, random_at, name_at, table, words}
-use Rattle.lx_run.specs.FirstStack.{IsTexts, IsFirstStack}
+use Rattle.lx_run.specs.Stack.{Headers, stack_end, argument_places, auxiliary, random_at, name_at, table, table_at, words}
+use Rattle.lx_run.specs.FirstStack.{IsTexts, IsInStack, IsFirstStack}
 
 pub length-words : (ns : List ℕ) → length (words ns) ≡ 8 * length ns
 length-words [] = refl

@@ -1,5 +1,5 @@
 -- A list of nothing but `None`.
-use Rattle.std.proofs.Common.{◌≡◌, ℕ, zero, suc, ◌<◌, List, [], ◌∷◌, length, replicate, slice_index_or, Option, None, arith, refl}
+use Rattle.std.proofs.Common.{◌≡◌, ℕ, zero, suc, ◌+◌, ◌<◌, List, [], ◌∷◌, length, replicate, slice_index_or, Option, None, arith, refl}
 
 pub all_none : {T : Type 0} (xs : List (Option T)) (n : ℕ) → length xs ≡ n → ((i : ℕ) (e : Option T) → i < n → slice_index_or xs i e ≡ None) → xs ≡ replicate n None
 all_none [] zero long each = refl

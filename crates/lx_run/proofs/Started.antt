@@ -4,6 +4,7 @@ use Rattle.std.specs.FinMap as map
 use Rattle.lx_memory.specs.Bytes.{with_bytes}
 use Rattle.lx_memory.specs.Ranges.{mapped}
 use Rattle.elf_image.specs.declared.parts.Image.{Image}
+use Rattle.lx_machine.specs.declared.state.LinuxState.{LinuxState}
 use Rattle.lx_machine.specs.Step.{default_action}
 use Rattle.lx_run.specs.Stack.{stack_end}
 use Rattle.lx_run.specs.Start.{headers_of, with_segments, stack_rights, with_return_page, last_end, first_thread, first_files, start}

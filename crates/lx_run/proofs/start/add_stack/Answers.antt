@@ -1,4 +1,4 @@
-use Rattle.std.proofs.Common.{length, subst, sym, arith}
+use Rattle.std.proofs.Common.{◌≡◌, length, subst, sym, arith}
 use Rattle.page_store.specs.Pages.{Pages}
 use Rattle.lx_memory.specs.Bytes.{IsMapped}
 use Rattle.lx_run.specs.Start.{stack_rights}

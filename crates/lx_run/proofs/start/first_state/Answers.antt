@@ -1,5 +1,6 @@
 use Rattle.std.proofs.Common.{◌≡◌, map, string_bytes, subst, IfOk}
 use Rattle.lx_machine.specs.declared.state.LinuxState.{LinuxState}
+use Rattle.lx_run.specs.Stack.{name_of, arguments_of}
 use Rattle.lx_run.proofs.Started.{started}
 use Rattle.lx_run.proofs.start.first_state.Goals as goal
 

@@ -1,4 +1,4 @@
-use Rattle.std.proofs.Common.{◌∷◌, replicate, Some, None, ap, ◌∙◌}
+use Rattle.std.proofs.Common.{◌≡◌, ◌∷◌, replicate, Some, None, ap, ◌∙◌}
 use Rattle.lx_machine.specs.declared.threads.LxThread.{LxThread}
 use Rattle.lx_run.specs.Start.{first_thread}
 use Rattle.lx_run.proofs.start.state_with.Goals as goal
