@@ -3,6 +3,7 @@ use Rattle.std.proofs.Common.{◌≡◌, ℕ, zero, suc, ◌+◌, ◌*◌, ◌�
 use Rattle.std.proofs.lemmas.List.{length-take}
 use Rattle.std.specs.Prelude.{slice_get, if◌then◌else◌, ◌==◌, Result, Ok, Err}
 use Rattle.std.specs.Option.{option_map}
+use Rattle.std.specs.declared.alloc.Global.{Global}
 use Rattle.linux_abi.specs.Call.{call_of}
 use Rattle.linux_abi.specs.declared.calls.Call.{Call}
 use Rattle.lx_machine.specs.Lists.{bind}
@@ -113,23 +114,23 @@ memory_kept (Some a) S S' threads threads' NoMemory is = is
 in_call_same : (L : LinuxState) (s : ℕ) (f g : LxThread → LxCall → Stage → Option LinuxState) → ((t : LxThread) (c : LxCall) (now : Stage) → f t c now ≡ g t c now) → in_call stage_of L s f ≡ in_call stage_of L s g
 in_call_same L s f g same = ap (λ (h : LxThread → LxCall → Stage → Option LinuxState). in_call stage_of L s h) (λ i t c now. same t c now i)
 
-fetch_by : (L : LinuxState) (s : ℕ) (t : LxThread) (c : LxCall) (p : Piece) (b : Bool) → b ≡ is_allowed Read L.space.pages p.at p.len → steps_by op.Fetch L s t c (stage.Fetch p) ≡ step.fetch fetched L s t c (stage.Fetch p)
-fetch_by L s t c p true is = rw (← is) refl
-fetch_by L s t c p false is = rw (← is) refl
+fetch_by : (alloc : Global) (L : LinuxState) (s : ℕ) (t : LxThread) (c : LxCall) (p : Piece) (b : Bool) → b ≡ is_allowed Read L.space.pages p.at p.len → steps_by (op.Fetch alloc) L s t c (stage.Fetch p) ≡ step.fetch fetched L s t c (stage.Fetch p)
+fetch_by alloc L s t c p true is = rw (← is) refl
+fetch_by alloc L s t c p false is = rw (← is) refl
 
-fetch_is : (L : LinuxState) (s : ℕ) (t : LxThread) (c : LxCall) (now : Stage) → steps_by op.Fetch L s t c now ≡ step.fetch fetched L s t c now
-fetch_is L s t c (stage.Fetch p) = fetch_by L s t c p (is_allowed Read L.space.pages p.at p.len) refl
-fetch_is L s t c stage.Hold = refl
-fetch_is L s t c stage.Drop = refl
-fetch_is L s t c stage.Effect = refl
-fetch_is L s t c stage.Move = refl
-fetch_is L s t c (stage.Store p) = refl
-fetch_is L s t c stage.Leave = refl
-fetch_is L s t c stage.Return = refl
-fetch_is L s t c stage.NotBuilt = refl
+fetch_is : (alloc : Global) (L : LinuxState) (s : ℕ) (t : LxThread) (c : LxCall) (now : Stage) → steps_by (op.Fetch alloc) L s t c now ≡ step.fetch fetched L s t c now
+fetch_is alloc L s t c (stage.Fetch p) = fetch_by alloc L s t c p (is_allowed Read L.space.pages p.at p.len) refl
+fetch_is alloc L s t c stage.Hold = refl
+fetch_is alloc L s t c stage.Drop = refl
+fetch_is alloc L s t c stage.Effect = refl
+fetch_is alloc L s t c stage.Move = refl
+fetch_is alloc L s t c (stage.Store p) = refl
+fetch_is alloc L s t c stage.Leave = refl
+fetch_is alloc L s t c stage.Return = refl
+fetch_is alloc L s t c stage.NotBuilt = refl
 
-pub fetch_in_call : (L : LinuxState) (s : ℕ) → in_call stage_of L s (steps_by op.Fetch L s) ≡ in_call stage_of L s (step.fetch fetched L s)
-fetch_in_call L s = in_call_same L s _ _ (fetch_is L s)
+pub fetch_in_call : (alloc : Global) (L : LinuxState) (s : ℕ) → in_call stage_of L s (steps_by (op.Fetch alloc) L s) ≡ in_call stage_of L s (step.fetch fetched L s)
+fetch_in_call alloc L s = in_call_same L s _ _ (fetch_is alloc L s)
 
 store_by : (L : LinuxState) (s : ℕ) (t : LxThread) (c : LxCall) (p : Piece) (b : Bool) → b ≡ is_allowed Write L.space.pages p.at p.len → steps_by op.Store L s t c (stage.Store p) ≡ step.store L s t c (stage.Store p)
 store_by L s t c p true is = rw (← is) refl

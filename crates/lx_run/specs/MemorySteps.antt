@@ -82,7 +82,7 @@ of_outcome o = record { space = o.space; part = o.call; at = o.first * 4096; len
 
 -- what the step does to the space and the call, by what the call does next
 abbrev pub does : MemoryStep → Space → LxCall → Stage → Option (Acted LxCall)
-does op.Fetch S c (stage.Fetch p) = Some (leaves S (fetched_in S c p))
+does (op.Fetch alloc) S c (stage.Fetch p) = Some (leaves S (fetched_in S c p))
 does op.Store S c (stage.Store p) = Some (stored_in S c p)
 does op.Effect S c stage.Effect = option_map of_outcome (bind (call_of c.number) (outcome_of S c))
 does op.Short S c stage.Effect = option_map of_outcome (bind (call_of c.number) (memory.short_of_memory S c))

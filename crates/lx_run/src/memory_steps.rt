@@ -33,7 +33,7 @@ use std::alloc::Global;
 /// short.
 #[derive(Clone, Copy)]
 pub enum MemoryStep {
-    Fetch,
+    Fetch(Global),
     Store,
     Effect,
     Short,
@@ -105,6 +105,43 @@ fn with_fetched(alloc: Global, call: &LxCall, more: &[u8]) -> Result<LxCall, NoM
     })
 }
 
+/// These bytes come behind those of the call, in the place of its first piece. Where memory is wanting, nothing changes.
+fn append_fetched(call: &mut LxCall, more: &[u8]) -> Result<(), NoMemory>
+    ensures ok { OnOk result (call.new ≡ with_fetched call.old more.now) }
+    ensures err { OnErr result (call.new ≡ call.old) }
+{
+    let Some(fetched) = call.fetched.checked_add(1) else {
+        return Err(NoMemory);
+    };
+    call.bytes.append(more)?;
+    call.fetched = fetched;
+    call.pieces.remove_first();
+    Ok(())
+}
+
+/// The bytes of vectors come, which are read. Where memory is wanting, nothing changes.
+fn fetch_vectors(alloc: Global, call: &mut LxCall, more: &[u8]) -> Result<(), NoMemory>
+    ensures ok { OnOk result (call.new ≡ fetched (with_fetched call.old more.now)) }
+    ensures err { OnErr result (call.new ≡ call.old) }
+{
+    let mut next = with_fetched(alloc, call, more)?;
+    after_fetch(alloc, &mut next)?;
+    *call = next;
+    Ok(())
+}
+
+/// The bytes of the first piece come. Where memory is wanting, nothing changes.
+fn take_fetched(alloc: Global, call: &mut LxCall, more: &[u8]) -> Result<(), NoMemory>
+    ensures ok { OnOk result (call.new ≡ fetched (with_fetched call.old more.now)) }
+    ensures err { OnErr result (call.new ≡ call.old) }
+{
+    match Call::new(call.number) {
+        Some(Call::Readv) if call.fetched == 0 => fetch_vectors(alloc, call, more),
+        Some(Call::Writev) if call.fetched == 0 => fetch_vectors(alloc, call, more),
+        _ => append_fetched(call, more),
+    }
+}
+
 /// Fetch: the piece is copied in, or where any byte can't be read, the call is refused (read(2), EFAULT).
 fn fetch_piece(alloc: Global, space: &Space, call: &mut LxCall, p: Piece) -> Result<(), NoMemory>
     ensures ok { OnOk result (call.new ≡ fetched_in space.now call.old p) }
@@ -115,15 +152,12 @@ fn fetch_piece(alloc: Global, space: &Space, call: &mut LxCall, p: Piece) -> Res
         return Ok(());
     }
     let bytes = bytes_in(alloc, &space.pages, p.at, p.len)?;
-    let mut next = with_fetched(alloc, call, &bytes)?;
-    after_fetch(alloc, &mut next)?;
-    *call = next;
-    Ok(())
+    take_fetched(alloc, call, &bytes)
 }
 
 /// Fetch, where it is what the call does next.
 fn fetch_of(alloc: Global, space: &Space, call: &mut LxCall) -> Result<Touched, LxRefusal>
-    ensures { Acts (does_now op.Fetch space.now call.old) space.now space.now call.old call.new result }
+    ensures { Acts (does_now (op.Fetch alloc) space.now call.old) space.now space.now call.old call.new result }
 {
     let Stage::Fetch(p) = stage_of(call) else {
         return Err(LxRefusal::NoStep);
@@ -244,16 +278,11 @@ fn short_of(space: &Space, call: &mut LxCall) -> Result<Touched, LxRefusal>
 }
 
 /// The step, where it is what the call does next.
-fn act(
-    alloc: Global,
-    step: MemoryStep,
-    space: &mut Space,
-    call: &mut LxCall,
-) -> Result<Touched, LxRefusal>
+fn act(step: MemoryStep, space: &mut Space, call: &mut LxCall) -> Result<Touched, LxRefusal>
     ensures { Acts (does_now step space.old call.old) space.old space.new call.old call.new result }
 {
     match step {
-        MemoryStep::Fetch => fetch_of(alloc, space, call),
+        MemoryStep::Fetch(alloc) => fetch_of(alloc, space, call),
         MemoryStep::Store => store_of(space, call),
         MemoryStep::Effect => effect_of(space, call),
         MemoryStep::Short => short_of(space, call),
@@ -263,7 +292,6 @@ fn act(
 /// The step of the call in this place, if there is one.
 #[tactic(auto, using(crate::proofs::MemoryStepped::lifted))]
 fn act_in_call(
-    alloc: Global,
     step: MemoryStep,
     space: &mut Space,
     place: &mut Option<LxCall>,
@@ -271,7 +299,7 @@ fn act_in_call(
     ensures { Acts (at_call step space.old place.old) space.old space.new place.old place.new result }
 {
     match place {
-        Some(call) => act(alloc, step, space, call),
+        Some(call) => act(step, space, call),
         None => Err(LxRefusal::NoStep),
     }
 }
@@ -279,20 +307,18 @@ fn act_in_call(
 /// The step of the thread's call, if it is in one.
 #[tactic(auto, using(crate::proofs::MemoryStepped::lifted))]
 fn act_in_thread(
-    alloc: Global,
     step: MemoryStep,
     space: &mut Space,
     thread: &mut LxThread,
 ) -> Result<Touched, LxRefusal>
     ensures { Acts (at_thread step space.old thread.old) space.old space.new thread.old thread.new result }
 {
-    act_in_call(alloc, step, space, &mut thread.call)
+    act_in_call(step, space, &mut thread.call)
 }
 
 /// The step of the thread in this place, if there is one.
 #[tactic(auto, using(crate::proofs::MemoryStepped::lifted))]
 fn act_at(
-    alloc: Global,
     step: MemoryStep,
     space: &mut Space,
     place: &mut Option<LxThread>,
@@ -300,7 +326,7 @@ fn act_at(
     ensures { Acts (at_place_of step space.old place.old) space.old space.new place.old place.new result }
 {
     match place {
-        Some(thread) => act_in_thread(alloc, step, space, thread),
+        Some(thread) => act_in_thread(step, space, thread),
         None => Err(LxRefusal::NoStep),
     }
 }
@@ -308,7 +334,6 @@ fn act_at(
 /// The step of the thread in this slot, if there is one.
 #[tactic(auto, using(crate::proofs::MemoryStepped::lifted, crate::proofs::Instructed::got, crate::proofs::Instructed::not_got, crate::proofs::Instructed::set_back))]
 fn act_in(
-    alloc: Global,
     step: MemoryStep,
     space: &mut Space,
     threads: &mut [Option<LxThread>; THREADS],
@@ -320,7 +345,7 @@ fn act_in(
     if at >= THREADS {
         return Err(LxRefusal::NoStep);
     }
-    act_at(alloc, step, space, &mut threads[at])
+    act_at(step, space, &mut threads[at])
 }
 
 /// So many units in bytes.
@@ -342,15 +367,10 @@ fn unmark_touched(state: &mut LinuxState, slot: u8, touched: Touched)
 
 /// The step of the thread in a slot, in its call.
 #[tactic(auto, using(crate::proofs::MemoryStepped::memory_steps, crate::proofs::MemoryStepped::memory_rests, crate::proofs::MemoryStepped::memory_kept))]
-fn step_by(
-    state: &mut LinuxState,
-    alloc: Global,
-    step: MemoryStep,
-    slot: u8,
-) -> Result<(), LxRefusal>
+fn step_by(state: &mut LinuxState, step: MemoryStep, slot: u8) -> Result<(), LxRefusal>
     ensures { Steps (in_call stage_of state.old slot (steps_by step state.old slot)) state.old state.new result }
 {
-    let touched = act_in(alloc, step, &mut state.space, &mut state.threads, slot)?;
+    let touched = act_in(step, &mut state.space, &mut state.threads, slot)?;
     unmark_touched(state, slot, touched);
     Ok(())
 }
@@ -360,34 +380,30 @@ fn step_by(
 pub fn fetch(state: &mut LinuxState, alloc: Global, slot: u8) -> Result<(), LxRefusal>
     ensures { Steps (in_call stage_of state.old slot (machine.fetch fetched state.old slot)) state.old state.new result }
 {
-    step_by(state, alloc, MemoryStep::Fetch, slot)
+    step_by(state, MemoryStep::Fetch(alloc), slot)
 }
 
 /// Store: the next piece of the call of the thread in a slot is copied out. What it writes ends the marks of other threads.
 #[tactic(auto, using(crate::proofs::MemoryStepped::store_in_call))]
-pub fn store(state: &mut LinuxState, alloc: Global, slot: u8) -> Result<(), LxRefusal>
+pub fn store(state: &mut LinuxState, slot: u8) -> Result<(), LxRefusal>
     ensures { Steps (in_call stage_of state.old slot (machine.store state.old slot)) state.old state.new result }
 {
-    step_by(state, alloc, MemoryStep::Store, slot)
+    step_by(state, MemoryStep::Store, slot)
 }
 
 /// The effect of a memory call of the thread in a slot, where memory is ample. The pages that it gives up or makes zeros end
 /// the marks of other threads.
 #[tactic(auto, using(crate::proofs::MemoryStepped::effect_in_call))]
-pub fn effect_on_memory(state: &mut LinuxState, alloc: Global, slot: u8) -> Result<(), LxRefusal>
+pub fn effect_on_memory(state: &mut LinuxState, slot: u8) -> Result<(), LxRefusal>
     ensures { Steps (in_call stage_of state.old slot (memory_effect state.old slot)) state.old state.new result }
 {
-    step_by(state, alloc, MemoryStep::Effect, slot)
+    step_by(state, MemoryStep::Effect, slot)
 }
 
 /// The effect of a memory call of the thread in a slot, where memory runs short.
 #[tactic(auto, using(crate::proofs::MemoryStepped::short_in_call))]
-pub fn effect_short_of_memory(
-    state: &mut LinuxState,
-    alloc: Global,
-    slot: u8,
-) -> Result<(), LxRefusal>
+pub fn effect_short_of_memory(state: &mut LinuxState, slot: u8) -> Result<(), LxRefusal>
     ensures { Steps (in_call stage_of state.old slot (short_memory_effect state.old slot)) state.old state.new result }
 {
-    step_by(state, alloc, MemoryStep::Short, slot)
+    step_by(state, MemoryStep::Short, slot)
 }
