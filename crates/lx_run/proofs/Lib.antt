@@ -5,6 +5,7 @@ pub mod Filled
 pub mod Instructed
 pub mod FirstStack
 pub mod Mapped
+pub mod MemoryStepped
 pub mod Nones
 pub mod Pushed
 pub mod Small

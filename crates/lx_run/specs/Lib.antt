@@ -1,4 +1,5 @@
 pub mod Accesses
+pub mod MemorySteps
 pub mod Places
 pub mod FileSteps
 pub mod FirstStack

@@ -5,6 +5,7 @@
 pub mod access;
 pub mod file_steps;
 pub mod instruction;
+pub mod memory_steps;
 pub mod stack;
 pub mod start;
 #[cfg(test)]

@@ -16,14 +16,14 @@ use lx_memory::Memory;
 use std::alloc::Global;
 
 /// What is left of a mark after another thread has written to these granules.
-fn mark_left(first: u64, last: u64, mark: Option<u64>) -> Option<u64>
+fn mark_left(first: u128, last: u128, mark: Option<u64>) -> Option<u64>
     ensures { result ≡ mark_left first last mark }
 {
-    mark.filter(|granule| !(first <= *granule && *granule <= last))
+    mark.filter(|granule| !(first <= u128::from(*granule) && u128::from(*granule) <= last))
 }
 
 /// Ends the mark of a thread, if it lies in these granules.
-fn unmark_one(place: &mut Option<LxThread>, first: u64, last: u64)
+fn unmark_one(place: &mut Option<LxThread>, first: u128, last: u128)
     ensures { place.new ≡ unmarked first last place.old }
 {
     if let Some(thread) = place {
@@ -32,7 +32,7 @@ fn unmark_one(place: &mut Option<LxThread>, first: u64, last: u64)
 }
 
 /// The same, but for the thread that has written.
-fn unmark_other(is_writer: bool, place: &mut Option<LxThread>, first: u64, last: u64)
+fn unmark_other(is_writer: bool, place: &mut Option<LxThread>, first: u128, last: u128)
     ensures { place.new ≡ (if is_writer then place.old else unmarked first last place.old) }
 {
     if !is_writer {
@@ -44,8 +44,8 @@ fn unmark_other(is_writer: bool, place: &mut Option<LxThread>, first: u64, last:
 fn unmark_from(
     at: usize,
     slot: u8,
-    first: u64,
-    last: u64,
+    first: u128,
+    last: u128,
     threads: &mut [Option<LxThread>; THREADS],
 )
     requires { at ≤ 32 }
@@ -58,12 +58,12 @@ fn unmark_from(
 }
 
 /// Ends the marks of other threads after the thread in `slot` has written so many bytes from an address on.
-fn unmark(state: &mut LinuxState, slot: u8, at: u64, len: u64)
+pub(crate) fn unmark(state: &mut LinuxState, slot: u8, at: u128, len: u128)
+    requires { at + len < 2 ^ 128 }
     ensures { state.new ≡ record state.old { threads = after_write slot at len state.old.threads } }
 {
     if len != 0 {
-        let last = (u128::from(at) + u128::from(len - 1)) / 16;
-        unmark_from(0, slot, at / 16, last as u64, &mut state.threads);
+        unmark_from(0, slot, at / 16, (at + len - 1) / 16, &mut state.threads);
     }
 }
 
@@ -116,6 +116,6 @@ pub fn instruction(state: &mut LinuxState, alloc: Global, slot: u8) -> Result<()
     ensures { Steps (outside_call state.old slot (λ t. Some (spec.instruction entered state.old slot t))) state.old state.new result }
 {
     let written = run_in(alloc, &mut state.space.pages, &mut state.threads, slot)?;
-    unmark(state, slot, written.at, written.len);
+    unmark(state, slot, u128::from(written.at), u128::from(written.len));
     Ok(())
 }
