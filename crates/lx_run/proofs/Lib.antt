@@ -7,3 +7,5 @@ pub mod Mapped
 pub mod Nones
 pub mod Small
 pub mod Started
+pub mod Taking
+pub mod Delivering

@@ -2,6 +2,8 @@ pub mod Accesses
 pub mod Places
 pub mod FirstStack
 pub mod Parts
+pub mod SignalPlaces
+pub mod SignalSteps
 pub mod Stack
 pub mod Start
 pub mod Steps

@@ -4,6 +4,7 @@
 
 pub mod access;
 pub mod instruction;
+pub mod signal_steps;
 pub mod stack;
 pub mod start;
 #[cfg(test)]
