@@ -10,3 +10,5 @@ pub mod Nones
 pub mod Pushed
 pub mod Small
 pub mod Started
+pub mod Taking
+pub mod Delivering

@@ -4,6 +4,8 @@ pub mod Places
 pub mod FileSteps
 pub mod FirstStack
 pub mod Parts
+pub mod SignalPlaces
+pub mod SignalSteps
 pub mod Stack
 pub mod Start
 pub mod Steps

@@ -68,7 +68,7 @@ pub(crate) fn unmark(state: &mut LinuxState, slot: u8, at: u128, len: u128)
 }
 
 /// Whether the thread is in no call, and has no trap, no signal to be delivered, and no doom.
-fn is_user(thread: &LxThread) -> bool
+pub(crate) fn is_user(thread: &LxThread) -> bool
     ensures { result ≡ is_user thread.now }
 {
     thread.call.is_none() && thread.trap.is_none() && thread.taken.is_none() && !thread.is_doomed
