@@ -9,8 +9,8 @@ use linux_abi::{Call, LinuxErrno, LinuxSig};
 use lx_machine::buffer::NoMemory;
 use lx_machine::calls::LxCall;
 use lx_machine::files::{FileKind, Files, OpenFile};
-use lx_machine::signals::{Origin, Pending, SigInfo};
 use lx_machine::refusal::LxRefusal;
+use lx_machine::signals::{Origin, Pending, SigInfo};
 use std::alloc::Global;
 
 /// Whether the call reads.

@@ -53,7 +53,7 @@ based regs rn a small = either _ (Err (misaligned regs.sp)) (Ok a) tt small
 aligned : (regs : Regs) (rn : Reg) (s : Size) (a : Access) → IsSmall a → AsksLittle (with_aligned_base regs rn s a)
 aligned regs rn s a small =
     either ((rn.number == 31) && not (regs.sp % 16 == 0)) (Err (misaligned regs.sp)) (if x_sp regs rn % size_bytes s == 0 then Ok a else Err (misaligned (x_sp regs rn))) tt (
-      either (x_sp regs rn % size_bytes s == 0) (Ok a) (Err (misaligned (x_sp regs rn))) small tt
+    either (x_sp regs rn % size_bytes s == 0) (Ok a) (Err (misaligned (x_sp regs rn))) small tt
     )
 
 moved : (regs : Regs) (s : Size) (t : Transfer) (rn rt : Reg) (at : ℕ) → AsksLittle (transferred regs s t rn rt at)

@@ -229,7 +229,13 @@ fn step_in(
 fn step(step: SignalStep, state: &mut LinuxState, slot: u8) -> Result<(), LxRefusal>
     ensures { Steps (signal_step step state.old slot) state.old state.new result }
 {
-    let ends = step_in(step, &state.actions, &mut state.pending, &mut state.threads, slot)?;
+    let ends = step_in(
+        step,
+        &state.actions,
+        &mut state.pending,
+        &mut state.threads,
+        slot,
+    )?;
     if let Some(signal) = ends {
         state.end = Some(GuestEnd::Killed(signal));
     }
