@@ -211,11 +211,7 @@ fn step_slot(
 }
 
 /// A step of the state.
-fn step_state(
-    step: FileStep,
-    state: &mut LinuxState,
-    slot: u8,
-) -> Result<(), LxRefusal>
+fn step_state(step: FileStep, state: &mut LinuxState, slot: u8) -> Result<(), LxRefusal>
     ensures { Steps (state_step step state.old slot) state.old state.new result }
 {
     let is_ignored = state.actions[12].handler == 1;
