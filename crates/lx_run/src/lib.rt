@@ -4,6 +4,8 @@
 
 pub mod access;
 pub mod file_steps;
+#[cfg(test)]
+mod file_tests;
 pub mod instruction;
 pub mod memory_steps;
 pub mod signal_steps;

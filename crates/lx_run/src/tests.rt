@@ -56,7 +56,7 @@ fn number_at(memory: &Memory, at: u64) -> Option<u64> {
 }
 
 /// E1 with the seed 7.
-fn started(alloc: Global) -> Result<LinuxState, Fail> {
+pub(crate) fn started(alloc: Global) -> Result<LinuxState, Fail> {
     let image = read_image(alloc, &E1)?;
     let words = words(alloc)?;
     let state = first_state(alloc, &image, &words, Vec::new(alloc), 7);
