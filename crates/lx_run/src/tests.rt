@@ -1,7 +1,11 @@
-//! What a small program finds at its start. Its stack was laid out by hand.
+//! What a small program finds at its start, and calls of it on memory. Its stack was laid out by hand.
+use crate::memory_steps::{effect_on_memory, fetch, store};
 use crate::start::first_state;
 use elf_image::read_image;
+use lx_calls::entry::enter;
+use lx_machine::calls::LxCall;
 use lx_machine::state::LinuxState;
+use lx_machine::threads::LxThread;
 use lx_memory::{Memory, Right};
 use std::alloc::{AllocError, Global};
 use std::process::Abort;
@@ -97,5 +101,58 @@ fn start_of_e1(rt: HostRuntime) -> Result<(), Fail> {
     ] {
         assert_eq!(rt; number_at(&state.space.pages, at), Some(number));
     }
+    Ok(())
+}
+
+/// The thread in this place enters a call, which holds open file 1.
+fn enter_call(
+    alloc: Global,
+    place: &mut Option<LxThread>,
+    number: u64,
+    arguments: [u64; 6],
+) -> Result<(), Fail> {
+    let thread = place.as_mut().ok_or("no thread")?;
+    let mut call = LxCall::new(alloc, number, arguments);
+    enter(alloc, &mut call).map_err(|_| "no memory")?;
+    call.held = Some(1);
+    thread.call = Some(call);
+    Ok(())
+}
+
+/// The call of the first thread.
+fn call_of(state: &LinuxState) -> Result<&LxCall, Fail> {
+    let thread = state.threads[0].as_ref().ok_or("no thread")?;
+    Ok(thread.call.as_ref().ok_or("no call")?)
+}
+
+// brk(2) moves the break by two pages, which are zeros.
+#[test]
+fn break_moves(rt: HostRuntime) -> Result<(), Fail> {
+    let alloc = rt.alloc();
+    let mut state = started(alloc)?;
+    enter_call(
+        alloc,
+        &mut state.threads[0],
+        214,
+        [0x40_3000, 0, 0, 0, 0, 0],
+    )?;
+    effect_on_memory(&mut state, 0).map_err(|_| "no step")?;
+    assert_eq!(rt; state.space.break_at, 0x40_3000);
+    assert_eq!(rt; call_of(&state)?.result, Some(0x40_3000));
+    assert_eq!(rt; number_at(&state.space.pages, 0x40_2ff8), Some(0));
+    assert!(rt; store(&mut state, 0).is_err());
+    Ok(())
+}
+
+// The bytes of a write(2) of the image name come in.
+#[test]
+fn bytes_come_in(rt: HostRuntime) -> Result<(), Fail> {
+    let alloc = rt.alloc();
+    let mut state = started(alloc)?;
+    enter_call(alloc, &mut state.threads[0], 64, [1, NAME, 2, 0, 0, 0])?;
+    fetch(&mut state, alloc, 0).map_err(|_| "no step")?;
+    let call = call_of(&state)?;
+    assert_eq!(rt; call.bytes.as_slice(), b"e1".as_slice());
+    assert_eq!(rt; (call.fetched, call.pieces.as_slice().len()), (1, 0));
     Ok(())
 }
