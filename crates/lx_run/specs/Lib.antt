@@ -4,6 +4,7 @@ pub mod Places
 pub mod FileSteps
 pub mod FirstStack
 pub mod Parts
+pub mod ProcessSteps
 pub mod SignalPlaces
 pub mod SignalSteps
 pub mod Stack

@@ -6,6 +6,7 @@ pub mod access;
 pub mod file_steps;
 pub mod instruction;
 pub mod memory_steps;
+pub mod process_steps;
 pub mod signal_steps;
 pub mod stack;
 pub mod start;
