@@ -3,6 +3,7 @@ pub mod MemorySteps
 pub mod Places
 pub mod FileSteps
 pub mod FirstStack
+pub mod Labels
 pub mod Parts
 pub mod ProcessSteps
 pub mod SignalPlaces

@@ -2,8 +2,11 @@
 ghost use Rattle.std.specs.Prelude.{◌≡◌, ◌≤◌, drop};
 ghost use Rattle.linux_abi.specs.Call.{call_of};
 ghost use Rattle.lx_machine.specs.Lists.{without_place};
+ghost use Rattle.lx_machine.specs.Step as machine;
+ghost use Rattle.lx_machine.specs.Step.{in_call};
 ghost use Rattle.lx_calls.specs.ProcessCalls.{all_free};
 ghost use Rattle.lx_calls.specs.Shape.{stage_of};
+ghost use Rattle.lx_calls.specs.Table.{effects};
 ghost use Rattle.lx_run.specs.FileSteps.{Goes};
 ghost use Rattle.lx_run.specs.ProcessSteps as spec;
 ghost use Rattle.lx_run.specs.ProcessSteps.{told, ending, told_by, state_step, is_only};
@@ -198,10 +201,18 @@ pub fn effect_on_process(
     step_state(ProcessStep::Effect(alloc), state, slot)
 }
 
-/// Leave: exit of the only thread, which ends the guest (_exit(2)).
-pub fn leave(state: &mut LinuxState, slot: u8) -> Result<(), LxRefusal>
+/// Leave, by whether the slot's thread is the only one.
+fn leave_if_only(state: &mut LinuxState, slot: u8) -> Result<(), LxRefusal>
     ensures { Steps (state_step (step.Leave (is_only state.old slot)) state.old slot) state.old state.new result }
 {
     let is_only = others_free(&state.threads, slot, 0);
     step_state(ProcessStep::Leave(is_only), state, slot)
+}
+
+/// Leave: exit of the only thread, which ends the guest (_exit(2)).
+#[tactic(auto, using(crate::proofs::Joining::leaves))]
+pub fn leave(state: &mut LinuxState, slot: u8) -> Result<(), LxRefusal>
+    ensures { Steps (in_call stage_of state.old slot (machine.leave effects state.old slot)) state.old state.new result }
+{
+    leave_if_only(state, slot)
 }
