@@ -101,7 +101,7 @@ returns L s named = returns_at L s named (slice_get L.threads s)
 -- ---- Take
 
 -- what is put back where it was changes nothing
-set_back : (xs : List (Option LxThread)) (i : ℕ) (t : LxThread) → slice_get xs i ≡ Some (Some t) → with_place xs i t ≡ xs
+pub set_back : (xs : List (Option LxThread)) (i : ℕ) (t : LxThread) → slice_get xs i ≡ Some (Some t) → with_place xs i t ≡ xs
 set_back xs i t is = subst (λ x. slice_set xs i x ≡ xs) (get_or_from_slice_get xs i (Some t) (Some t) is) (set-get_or xs i (Some t))
 
 forced_is : (same blocked : Bool) (L : LinuxState) (s : ℕ) (t : LxThread) (sig : LinuxSig) → with_place L.threads s t ≡ L.threads

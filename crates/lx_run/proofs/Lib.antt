@@ -3,6 +3,7 @@ pub mod Exchanged
 pub mod FileStepped
 pub mod Filled
 pub mod Instructed
+pub mod Joining
 pub mod FirstStack
 pub mod Mapped
 pub mod MemoryStepped

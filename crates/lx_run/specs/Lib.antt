@@ -3,7 +3,9 @@ pub mod MemorySteps
 pub mod Places
 pub mod FileSteps
 pub mod FirstStack
+pub mod Labels
 pub mod Parts
+pub mod ProcessSteps
 pub mod SignalPlaces
 pub mod SignalSteps
 pub mod Stack

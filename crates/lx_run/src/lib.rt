@@ -7,10 +7,13 @@ pub mod file_steps;
 #[cfg(test)]
 mod file_tests;
 pub mod instruction;
+pub mod joined;
 pub mod memory_steps;
+pub mod process_steps;
 pub mod signal_steps;
 pub mod stack;
 pub mod start;
+pub mod state;
 #[cfg(test)]
 mod tests;
 pub mod threads;
