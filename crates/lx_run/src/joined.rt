@@ -43,12 +43,7 @@ fn effect_in_full(state: &mut LinuxState, alloc: Global, slot: u8) -> Result<(),
 
 /// Effect: what the call of the thread in a slot does, where memory is ample or, if `short`, where it runs short.
 #[tactic(auto, using(crate::proofs::Joining::has_effect, crate::proofs::Joining::runs_short))]
-pub fn effect(
-    state: &mut LinuxState,
-    alloc: Global,
-    slot: u8,
-    short: bool,
-) -> Result<(), LxRefusal>
+pub fn effect(state: &mut LinuxState, alloc: Global, slot: u8, short: bool) -> Result<(), LxRefusal>
     ensures { Steps (in_call stage_of state.old slot (machine.effect effects short state.old slot)) state.old state.new result }
 {
     if short {

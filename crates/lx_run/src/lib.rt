@@ -1,5 +1,7 @@
-//! The Linux machine in a form that runs, as far as it is built: `start::first_state` is the state in which a program
-//! starts, and `threads::instruction` the step Instr. The steps of calls are functions of `lx_calls` on parts of the state.
+//! The Linux machine in a form that runs: `state::LxState`, whose `start` is the state in which a program starts and whose
+//! `step` is a step of the machine. Of each label a module has the step: `threads` Instr; `memory_steps` Fetch, Store and the
+//! memory calls; `file_steps` Hold, Drop, Move and the calls on descriptors; `process_steps` Leave and the calls on the
+//! process; `signal_steps` Return and Take; `joined` Effect of any call, and Drain.
 #![tactic(auto)]
 
 pub mod access;

@@ -191,11 +191,7 @@ fn others_free(threads: &[Option<LxThread>; THREADS], slot: u8, at: usize) -> bo
 }
 
 /// Effect of a call on the process: an id, set_tid_address, sched_yield, uname or exit_group.
-pub fn effect_on_process(
-    state: &mut LinuxState,
-    alloc: Global,
-    slot: u8,
-) -> Result<(), LxRefusal>
+pub fn effect_on_process(state: &mut LinuxState, alloc: Global, slot: u8) -> Result<(), LxRefusal>
     ensures { Steps (state_step (step.Effect alloc) state.old slot) state.old state.new result }
 {
     step_state(ProcessStep::Effect(alloc), state, slot)

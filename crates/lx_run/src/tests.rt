@@ -1,11 +1,13 @@
 //! What a small program finds at its start, and calls of it on memory. Its stack was laid out by hand.
 use crate::memory_steps::{effect_on_memory, fetch, store};
 use crate::start::first_state;
+use crate::state::LxState;
 use elf_image::read_image;
 use lx_calls::entry::enter;
 use lx_machine::calls::LxCall;
+use lx_machine::label::Label;
 use lx_machine::state::LinuxState;
-use lx_machine::threads::LxThread;
+use lx_machine::threads::{GuestEnd, LxThread};
 use lx_memory::{Memory, Right};
 use std::alloc::{AllocError, Global};
 use std::process::Abort;
@@ -154,5 +156,24 @@ fn bytes_come_in(rt: HostRuntime) -> Result<(), Fail> {
     let call = call_of(&state)?;
     assert_eq!(rt; call.bytes.as_slice(), b"e1".as_slice());
     assert_eq!(rt; (call.fetched, call.pieces.as_slice().len()), (1, 0));
+    Ok(())
+}
+
+// exit-42: three instructions, the last of which enters exit(2), and the guest ends.
+#[test]
+fn exit_42(rt: HostRuntime) -> Result<(), Fail> {
+    let alloc = rt.alloc();
+    let image = read_image(alloc, &E1)?;
+    let words = words(alloc)?;
+    let started = LxState::start(alloc, &image, &words, Vec::new(alloc), 7);
+    let mut machine = started.map_err(|_| "no memory")?;
+    machine.step(alloc, &Label::Instr(0)).map_err(|_| "MOV x0")?;
+    machine.step(alloc, &Label::Instr(0)).map_err(|_| "MOV x8")?;
+    assert!(rt; machine.step(alloc, &Label::Leave(0)).is_err());
+    machine.step(alloc, &Label::Instr(0)).map_err(|_| "SVC")?;
+    assert!(rt; machine.step(alloc, &Label::Instr(0)).is_err());
+    machine.step(alloc, &Label::Leave(0)).map_err(|_| "exit")?;
+    assert!(rt; matches!(machine.state().end, Some(GuestEnd::Exited(42))));
+    assert!(rt; machine.step(alloc, &Label::Leave(0)).is_err());
     Ok(())
 }
