@@ -1,6 +1,6 @@
 -- Return and Take on parts of the state are the steps of the Linux machine.
 use Rattle.std.proofs.Common.{◌≡◌, ◌==◌, ℕ, Bool, true, false, List, Option, Some, None, refl, subst, sym, slice_set}
-use Rattle.std.specs.Prelude.{slice_get, slice_index_or, if◌then◌else◌, ◌&&◌, ◌||◌, nat_le}
+use Rattle.std.specs.Prelude.{slice_get, if◌then◌else◌, ◌&&◌, ◌||◌, nat_le}
 use Rattle.std.specs.Option.{option_map}
 use Rattle.std.proofs.Math.Bool.{not}
 use Rattle.std.proofs.lemmas.Option.{get_or_from_slice_get}
@@ -21,10 +21,9 @@ use Rattle.lx_machine.specs.declared.signals.SigInfo.{SigInfo}
 use Rattle.lx_machine.specs.declared.state.LinuxState.{LinuxState}
 use Rattle.lx_machine.specs.declared.threads.LxThread.{LxThread}
 use Rattle.lx_calls.specs.Shape.{stage_of}
-use Rattle.lx_run.specs.SignalPlaces.{delivered_in, step_of, signal_step}
+use Rattle.lx_run.specs.SignalPlaces.{delivered_in, signal_step}
 use Rattle.lx_run.specs.SignalSteps as spec
 use Rattle.lx_run.specs.SignalSteps.{Delivered, delivered, action_among, listed, taken, take}
-use Rattle.lx_run.specs.declared.signal_steps.SignalStep.{SignalStep}
 use Rattle.lx_run.specs.declared.signal_steps.SignalStep.TheVariants as step
 use Rattle.lx_run.proofs.Taking.{by_default}
 

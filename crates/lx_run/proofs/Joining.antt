@@ -1,12 +1,12 @@
 -- Effect, Leave and Drain on parts of the state are the steps of the Linux machine.
-use Rattle.std.proofs.Common.{◌≡◌, ◌%◌, ℕ, Bool, true, false, List, ◌∷◌, Option, Some, None, refl, sym, ◌∙◌, subst, slice_set, length, drop}
+use Rattle.std.proofs.Common.{◌≡◌, ℕ, Bool, true, false, List, ◌∷◌, Option, Some, None, refl, sym, slice_set, length, drop}
 use Rattle.std.specs.Prelude.{slice_get, if◌then◌else◌, ◌&&◌, nat_le}
 use Rattle.std.specs.Option.{option_map, option_or}
 use Rattle.std.specs.declared.alloc.Global.{Global}
 use Rattle.linux_abi.specs.Call.{call_of}
 use Rattle.linux_abi.specs.declared.calls.Call.{Call}
 use Rattle.linux_abi.specs.declared.calls.Call.TheVariants as call
-use Rattle.lx_machine.specs.Lists.{bind, with_place}
+use Rattle.lx_machine.specs.Lists.{bind}
 use Rattle.lx_machine.specs.Step as label
 use Rattle.lx_machine.specs.Step.{in_call, drain}
 use Rattle.lx_machine.specs.declared.calls.LxCall.{LxCall}

@@ -1,8 +1,8 @@
 -- A thread that takes a signal as its call returns takes it as it would without the result.
-use Rattle.std.proofs.Common.{◌≡◌, ℕ, ◌-◌, ◌==◌, Bool, true, false, List, Option, Some, None, refl}
+use Rattle.std.proofs.Common.{ℕ, ◌==◌, Bool, true, false, List, Option, Some, None, refl}
 use Rattle.std.specs.Prelude.{if◌then◌else◌, Ok, Err}
 use Rattle.std.proofs.Math.Bool.{not}
-use Rattle.linux_abi.specs.LinuxSig.{signal_number, is_dropped_by_default}
+use Rattle.linux_abi.specs.LinuxSig.{is_dropped_by_default}
 use Rattle.linux_abi.specs.declared.signals.LinuxSig.{LinuxSig}
 use Rattle.lx_machine.specs.Signals.{may_take, without_signal}
 use Rattle.lx_machine.specs.Step.{with_result}
@@ -13,7 +13,7 @@ use Rattle.lx_machine.specs.declared.refusal.LxRefusal.TheVariants.{NoStep, NoMe
 use Rattle.lx_machine.specs.declared.signals.Action.{Action}
 use Rattle.lx_machine.specs.declared.signals.SigInfo.{SigInfo}
 use Rattle.lx_machine.specs.declared.threads.LxThread.{LxThread}
-use Rattle.lx_run.specs.SignalSteps.{Delivered, delivered, Delivers, action_among, listed, taken, take}
+use Rattle.lx_run.specs.SignalSteps.{Delivered, delivered, Delivers, action_among, taken, take}
 
 -- the default action, of a thread that has taken a signal
 abbrev pub by_default : Bool → Bool → LxThread → List SigInfo → LinuxSig → Option Delivered

@@ -1,6 +1,6 @@
 -- The steps of calls on the process, from a call up to the state: Effect of the ids, set_tid_address, sched_yield, uname and
 -- exit_group, and Leave, which is exit of the only thread.
-use Rattle.std.specs.Prelude.{ℕ, ◌%◌, Bool, true, false, if◌then◌else◌, List, slice_get, slice_set, Option, Some, None}
+use Rattle.std.specs.Prelude.{ℕ, ◌%◌, Bool, if◌then◌else◌, List, slice_get, slice_set, Option, Some, None}
 use Rattle.std.specs.Option.{option_map}
 use Rattle.linux_abi.specs.Call.{call_of}
 use Rattle.linux_abi.specs.declared.calls.Call.{Call}

@@ -1,10 +1,10 @@
 -- Return and Take on the parts of the state that they need: a thread, the pending signals that all threads share, and the
 -- actions.
-use Rattle.std.specs.Prelude.{◌≡◌, ℕ, ◌-◌, ◌==◌, Bool, true, false, ◌&&◌, ◌||◌, nat_le, if◌then◌else◌, List, Option, Some, None, Result, Ok, Err, slice_index_or}
+use Rattle.std.specs.Prelude.{◌≡◌, ◌-◌, ◌==◌, ◌&&◌, ◌||◌, nat_le, if◌then◌else◌, List, Option, Some, None, Result, Ok, Err, slice_index_or}
 use Rattle.std.proofs.Math.Bool.{not}
 use Rattle.linux_abi.specs.LinuxSig.{signal_number, is_dropped_by_default}
 use Rattle.linux_abi.specs.declared.signals.LinuxSig.{LinuxSig}
-use Rattle.lx_machine.specs.Lists.{bind, with_place}
+use Rattle.lx_machine.specs.Lists.{bind}
 use Rattle.lx_machine.specs.Signals.{has_signal, may_take, has_unblocked, without_signal}
 use Rattle.lx_machine.specs.Step.{default_action, is_user, with_result}
 use Rattle.lx_machine.specs.declared.calls.LxCall.{LxCall}

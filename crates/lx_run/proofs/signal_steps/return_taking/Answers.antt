@@ -1,10 +1,3 @@
-use Rattle.std.proofs.Common.{◌≡◌, subst, sym, Ok, Err}
-use Rattle.std.specs.Prelude.{Result}
-use Rattle.linux_abi.specs.declared.signals.LinuxSig.{LinuxSig}
-use Rattle.lx_machine.specs.Step.{with_result}
-use Rattle.lx_machine.specs.declared.threads.LxThread.{LxThread}
-use Rattle.lx_run.specs.SignalSteps as spec
-use Rattle.lx_run.specs.SignalSteps.{Delivers}
 use Rattle.lx_run.proofs.Taking.{taken_with_result, refused_with_result}
 use Rattle.lx_run.proofs.signal_steps.return_taking.Goals as goal
 
