@@ -1,7 +1,6 @@
 -- Vectors, one at a time.
 use Rattle.std.proofs.Common.{◌≡◌, ℕ, suc, ◌+◌, ◌-◌, ◌<◌, ◌≤◌, List, [], ◌∷◌, ◌++◌, length, take, drop, refl, arith, append_assoc}
 use Rattle.std.proofs.lemmas.List.{take_rest}
-use Rattle.std.proofs.lemmas.Grind.{common_steps}
 use Rattle.places.specs.Places.{number_at}
 use Rattle.lx_machine.specs.Pieces.{piece}
 use Rattle.lx_machine.specs.declared.calls.Piece.{Piece}

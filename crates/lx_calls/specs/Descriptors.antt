@@ -1,6 +1,5 @@
 -- Calls on descriptors. Source: eventfd(2), dup(2), fcntl(2), ioctl(2), close(2), pipe(2), lseek(2).
-use Rattle.std.specs.Prelude.{ℕ, suc, ◌+◌, ◌-◌, ◌*◌, ◌/◌, ◌%◌, ◌^◌, ◌==◌, Bool, true, false, ◌&&◌, ◌||◌, nat_lt, nat_le, if◌then◌else◌, List, [], ◌∷◌, ◌++◌, length, drop, Option, Some, None}
-use Rattle.std.proofs.Math.Bool.{not}
+use Rattle.std.specs.Prelude.{ℕ, suc, ◌+◌, ◌*◌, ◌/◌, ◌%◌, ◌^◌, ◌==◌, Bool, true, false, nat_le, if◌then◌else◌, List, [], ◌∷◌, ◌++◌, drop, Option, Some, None}
 use Rattle.std.specs.Int.{from_bool}
 use Rattle.places.specs.Places.{bytes_of}
 use Rattle.linux_abi.specs.DescriptorOperation.{descriptor_operation_of}
@@ -8,13 +7,11 @@ use Rattle.linux_abi.specs.declared.files.DescriptorOperation.{DescriptorOperati
 use Rattle.linux_abi.specs.declared.files.DescriptorOperation.TheVariants as operation
 use Rattle.linux_abi.specs.declared.errno.LinuxErrno.{LinuxErrno}
 use Rattle.linux_abi.specs.declared.errno.LinuxErrno.TheVariants as errno
-use Rattle.lx_machine.specs.Lists.{bind, at_place, with_place, first_free, first_free_from}
+use Rattle.lx_machine.specs.Lists.{at_place, with_place, first_free, first_free_from}
 use Rattle.lx_machine.specs.Pieces.{piece}
 use Rattle.lx_machine.specs.Calls.{argument, low_argument, answered, answered_with, refused}
-use Rattle.lx_machine.specs.declared.state.LinuxState.{LinuxState}
 use Rattle.lx_machine.specs.declared.files.Files.{Files}
 use Rattle.lx_machine.specs.declared.calls.LxCall.{LxCall}
-use Rattle.lx_machine.specs.declared.files.Counter.{Counter}
 use Rattle.lx_machine.specs.declared.files.Descriptor.{Descriptor}
 use Rattle.lx_machine.specs.declared.files.OpenFile.{OpenFile}
 use Rattle.lx_machine.specs.declared.files.FileKind.{FileKind}
@@ -170,18 +167,25 @@ pipe_at F c pipe read_file write_file read_fd write_fd =
 abbrev pub second_free : {X : Type 0} → List (Option X) → ℕ → Option ℕ
 second_free xs first = first_free_from (suc first) (drop (suc first) xs)
 
--- two descriptors and a pipe are free. Open files are, since there are more places than descriptors and holds
-abbrev pub pipe_numbers : Files → LxCall → ℕ → ℕ → Option ℕ → Option ℕ → Option ℕ → Outcome
-pipe_numbers F c fd file None file2 pipe = refuses F c errno.EMFILE
-pipe_numbers F c fd file (Some fd2) file2 None = refuses F c errno.ENFILE
-pipe_numbers F c fd file (Some fd2) None (Some pipe) = refuses F c errno.ENFILE
-pipe_numbers F c fd file (Some fd2) (Some file2) (Some pipe) = pipe_at F c pipe file file2 fd fd2
+-- a pipe whose first open file has this number: there is a second one
+abbrev pub pipe_files : Files → LxCall → ℕ → ℕ → ℕ → ℕ → Option ℕ → Outcome
+pipe_files F c pipe fd fd2 file (Some file2) = pipe_at F c pipe file file2 fd fd2
+pipe_files F c pipe fd fd2 file None = refuses F c errno.ENFILE
 
-abbrev pub pipe_from : Files → LxCall → Option ℕ → Option ℕ → Outcome
-pipe_from F c None file = refuses F c errno.EMFILE
-pipe_from F c (Some fd) None = refuses F c errno.ENFILE
-pipe_from F c (Some fd) (Some file) =
-    pipe_numbers F c fd file (second_free F.descriptors fd) (second_free F.files file) (first_free F.pipes)
+-- an open file and a pipe are free
+abbrev pub pipe_numbers : Files → LxCall → ℕ → ℕ → Option ℕ → Option ℕ → Outcome
+pipe_numbers F c fd fd2 (Some file) (Some pipe) = pipe_files F c pipe fd fd2 file (second_free F.files file)
+pipe_numbers F c fd fd2 _ _ = refuses F c errno.ENFILE
+
+-- a second descriptor is free
+abbrev pub pipe_from : Files → LxCall → ℕ → Option ℕ → Outcome
+pipe_from F c fd (Some fd2) = pipe_numbers F c fd fd2 (first_free F.files) (first_free F.pipes)
+pipe_from F c fd None = refuses F c errno.EMFILE
+
+-- two descriptors are free, and then a pipe and two open files
+abbrev pub pipe_descriptors : Files → LxCall → Option ℕ → Outcome
+pipe_descriptors F c (Some fd) = pipe_from F c fd (second_free F.descriptors fd)
+pipe_descriptors F c None = refuses F c errno.EMFILE
 
 abbrev pub pipe2 : Files → LxCall → Outcome
-pipe2 F c = pipe_from F c (first_free F.descriptors) (first_free F.files)
+pipe2 F c = pipe_descriptors F c (first_free F.descriptors)

@@ -1,11 +1,10 @@
 -- FileEffects: descriptors, open files, pipes and counters. A new one has the least number that no living one of its kind
 -- has. An open file lives while a descriptor or a call's hold names it, a pipe while one of its ends lives, and a counter
 -- while its open file lives. Source: open(2), close(2), pipe(2), eventfd(2).
-use Rattle.std.specs.Prelude.{ℕ, suc, ◌+◌, ◌-◌, ◌==◌, Bool, true, false, ◌&&◌, ◌||◌, nat_lt, if◌then◌else◌, List, [], ◌∷◌, Option, Some, None, drop}
+use Rattle.std.specs.Prelude.{ℕ, ◌+◌, ◌-◌, ◌==◌, Bool, false, ◌&&◌, ◌||◌, if◌then◌else◌, List, [], Option, Some, None}
 use Rattle.std.proofs.Math.Bool.{not}
 use Rattle.std.specs.List.{list_any}
-use Rattle.lx_machine.specs.Lists.{bind, at_place, with_place, without_place, first_free, first_free_from}
-use Rattle.lx_machine.specs.declared.state.LinuxState.{LinuxState}
+use Rattle.lx_machine.specs.Lists.{at_place, with_place, without_place}
 use Rattle.lx_machine.specs.declared.files.Files.{Files}
 use Rattle.lx_machine.specs.declared.files.Descriptor.{Descriptor}
 use Rattle.lx_machine.specs.declared.files.OpenFile.{OpenFile}

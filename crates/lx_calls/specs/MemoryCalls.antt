@@ -1,6 +1,6 @@
 -- brk, mmap, munmap, mprotect and madvise. Source: the manual page of each. That the code can't be changed, and that the
 -- highest free range is taken, is this project's own.
-use Rattle.std.specs.Prelude.{ℕ, ◌+◌, ◌-◌, ◌*◌, ◌/◌, ◌%◌, ◌^◌, ◌==◌, Bool, true, false, ◌&&◌, nat_lt, nat_le, if◌then◌else◌, Option, Some, None}
+use Rattle.std.specs.Prelude.{ℕ, ◌-◌, ◌*◌, ◌/◌, ◌%◌, ◌==◌, nat_lt, nat_le, if◌then◌else◌, Option, Some, None}
 use Rattle.std.proofs.Math.Bool.{not}
 use Rattle.linux_abi.specs.declared.errno.LinuxErrno.{LinuxErrno}
 use Rattle.linux_abi.specs.declared.errno.LinuxErrno.TheVariants as errno
@@ -10,7 +10,7 @@ use Rattle.vm_areas.specs.declared.runs.Rights.{Rights}
 use Rattle.lx_memory.specs.Ranges.{mapped, unmapped, protected, zeroed}
 use Rattle.lx_machine.specs.Memory.{all_mapped, all_free, any_executable, highest_gap}
 use Rattle.lx_machine.specs.Calls.{argument, low_argument, answered, refused}
-use Rattle.lx_machine.specs.declared.state.Space.{Space}
+use Rattle.lx_machine.specs.declared.space.Space.{Space}
 use Rattle.lx_machine.specs.declared.calls.LxCall.{LxCall}
 use Rattle.lx_calls.specs.Entry.{pages_of, is_fixed}
 
@@ -76,7 +76,7 @@ mapped_fixed S c =
     if any_executable S.pages (argument c 0 / 4096) (pages_of (argument c 1)) then refuses S c errno.EACCES
     else mapped_at S c (argument c 0 / 4096)
 
--- else in the highest free range below the stack's end
+-- else in the highest free range from page 16 on that ends at or below page 0x7fff00000
 abbrev pub mapped_in : Space → LxCall → Option ℕ → Outcome
 mapped_in S c (Some first) = mapped_at S c first
 mapped_in S c None = refuses S c errno.ENOMEM

@@ -1,13 +1,11 @@
 -- Shape: what each call does, one thing after the other. Source: the manual page of each call.
-use Rattle.std.specs.Prelude.{ℕ, ◌+◌, ◌*◌, ◌%◌, ◌^◌, ◌==◌, Bool, true, false, ◌&&◌, ◌||◌, nat_lt, if◌then◌else◌, List, [], ◌∷◌, length, Option, Some, None}
-use Rattle.std.proofs.Math.Bool.{not}
+use Rattle.std.specs.Prelude.{ℕ, ◌==◌, if◌then◌else◌, List, [], ◌∷◌, Option, Some, None}
 use Rattle.linux_abi.specs.Call.{call_of}
 use Rattle.linux_abi.specs.declared.calls.Call.{Call}
 use Rattle.linux_abi.specs.declared.calls.Call.TheVariants as call
-use Rattle.linux_abi.specs.declared.errno.LinuxErrno.{LinuxErrno}
 use Rattle.linux_abi.specs.declared.errno.LinuxErrno.TheVariants as errno
-use Rattle.lx_machine.specs.Pieces.{piece, clipped}
-use Rattle.lx_machine.specs.Calls.{argument, low_argument, answered_stage, refused}
+use Rattle.lx_machine.specs.Pieces.{clipped}
+use Rattle.lx_machine.specs.Calls.{low_argument, answered_stage, refused}
 use Rattle.lx_machine.specs.declared.calls.LxCall.{LxCall}
 use Rattle.lx_machine.specs.declared.calls.Piece.{Piece}
 use Rattle.lx_machine.specs.declared.calls.Stage.{Stage}

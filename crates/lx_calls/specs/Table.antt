@@ -1,5 +1,5 @@
 -- The table of effects: what each call does, by its number; and the Linux machine with it.
-use Rattle.std.specs.Prelude.{ℕ, ◌+◌, ◌*◌, ◌==◌, Bool, true, false, if◌then◌else◌, List, Option, Some, None}
+use Rattle.std.specs.Prelude.{ℕ, ◌*◌, Bool, true, false, List, Option, Some, None}
 use Rattle.std.specs.Option.{option_map}
 use Rattle.linux_abi.specs.Call.{call_of}
 use Rattle.linux_abi.specs.declared.calls.Call.{Call}
@@ -7,8 +7,6 @@ use Rattle.linux_abi.specs.declared.calls.Call.TheVariants as call
 use Rattle.lx_machine.specs.Lists.{bind}
 use Rattle.lx_machine.specs.Calls.{answered}
 use Rattle.lx_machine.specs.declared.state.LinuxState.{LinuxState}
-use Rattle.lx_machine.specs.declared.state.Space.{Space}
-use Rattle.lx_machine.specs.declared.files.Files.{Files}
 use Rattle.lx_machine.specs.Threads.{in_call_of, after_write}
 use Rattle.lx_machine.specs.Step.{Effects, LStep, LRun}
 use Rattle.lx_machine.specs.declared.calls.LxCall.{LxCall}

@@ -1,5 +1,5 @@
 -- read, write, readv and writev: Hold, Drop and Move. Source: read(2), write(2), readv(2), pipe(7), eventfd(2).
-use Rattle.std.specs.Prelude.{◌≡◌, ℕ, ◌+◌, ◌-◌, ◌^◌, ◌==◌, Bool, true, false, ◌&&◌, ◌||◌, nat_lt, nat_le, min, if◌then◌else◌, List, [], ◌∷◌, ◌++◌, length, take, drop, Option, Some, None, Result, Ok, Err, ℤ, pos}
+use Rattle.std.specs.Prelude.{◌≡◌, ℕ, ◌+◌, ◌-◌, ◌^◌, ◌==◌, Bool, true, false, ◌&&◌, ◌||◌, nat_lt, nat_le, min, if◌then◌else◌, List, [], ◌∷◌, ◌++◌, length, take, drop, Option, Some, None, Result, Ok, Err, pos}
 use Rattle.std.proofs.Math.Bool.{not}
 use Rattle.std.specs.List.{list_any}
 use Rattle.std.specs.Option.{option_map}
@@ -20,7 +20,6 @@ use Rattle.lx_machine.specs.declared.state.LinuxState.{LinuxState}
 use Rattle.lx_machine.specs.declared.files.Files.{Files}
 use Rattle.lx_machine.specs.Threads.{in_call_of}
 use Rattle.lx_machine.specs.declared.calls.LxCall.{LxCall}
-use Rattle.lx_machine.specs.declared.calls.Piece.{Piece}
 use Rattle.lx_machine.specs.declared.files.Counter.{Counter}
 use Rattle.lx_machine.specs.declared.files.Descriptor.{Descriptor}
 use Rattle.lx_machine.specs.declared.files.OpenFile.{OpenFile}
@@ -31,8 +30,8 @@ use Rattle.lx_machine.specs.declared.label.LxSide.TheVariants as side
 use Rattle.lx_machine.specs.declared.label.Pick.{Pick}
 use Rattle.lx_machine.specs.declared.signals.SigInfo.{SigInfo}
 use Rattle.lx_machine.specs.declared.signals.Origin.TheVariants.{Sender}
-use Rattle.lx_machine.specs.declared.step.NoStep.{NoStep}
-use Rattle.lx_machine.specs.declared.step.NoStep.TheVariants.{NotEnabled, NoMemory}
+use Rattle.lx_machine.specs.declared.refusal.LxRefusal.{LxRefusal}
+use Rattle.lx_machine.specs.declared.refusal.LxRefusal.TheVariants.{NoStep, NoMemory}
 use Rattle.lx_machine.specs.declared.threads.LxThread.{LxThread}
 use Rattle.lx_calls.specs.Files.{has_reader, has_writer, with_hold, given_back}
 
@@ -231,9 +230,9 @@ moved F c = bind c.held (λ file. bind (at_place F.files file) (move_file F c fi
 
 -- a function that computes a step of a transfer, and tells whether its thread gets SIGPIPE: it leaves what the step leaves.
 -- Where there is no such step, or memory is wanting, nothing changes
-abbrev pub Makes : Option Outcome → Files → LxCall → Files → LxCall → Result Bool NoStep → Type 0
+abbrev pub Makes : Option Outcome → Files → LxCall → Files → LxCall → Result Bool LxRefusal → Type 0
 Makes step F c new_files new_call (Ok broken) = step ≡ Some (record { files = new_files; call = new_call; is_broken = broken })
-Makes step F c new_files new_call (Err NotEnabled) = (step ≡ None) × (new_files ≡ F) × (new_call ≡ c)
+Makes step F c new_files new_call (Err NoStep) = (step ≡ None) × (new_files ≡ F) × (new_call ≡ c)
 Makes step F c new_files new_call (Err NoMemory) = (new_files ≡ F) × (new_call ≡ c)
 
 -- ---- SIGPIPE
@@ -246,6 +245,10 @@ broken_pipe = record { signal = signal.SIGPIPE; code = pos 0; origin = Sender 10
 abbrev pub with_broken_pipe : Bool → List SigInfo → List SigInfo
 with_broken_pipe ignored pending =
     if ignored || list_any (is_of signal.SIGPIPE) pending then pending else pending ++ broken_pipe ∷ []
+
+-- SIGPIPE can become pending so: the list holds at most 95 signals
+abbrev pub has_room_for_broken_pipe : Bool → List SigInfo → Bool
+has_room_for_broken_pipe ignored pending = ignored || list_any (is_of signal.SIGPIPE) pending || not (length pending == 95)
 
 -- ---- the steps of the thread t in slot s
 

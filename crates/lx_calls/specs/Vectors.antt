@@ -1,5 +1,5 @@
 -- Vectors (readv(2): struct iovec): an address and a length, 8 bytes each.
-use Rattle.std.specs.Prelude.{ℕ, zero, suc, ◌+◌, ◌*◌, ◌^◌, Bool, nat_lt, nat_le, if◌then◌else◌, length, List, [], ◌∷◌, drop}
+use Rattle.std.specs.Prelude.{ℕ, zero, suc, ◌^◌, Bool, nat_lt, nat_le, if◌then◌else◌, length, List, [], ◌∷◌, drop}
 use Rattle.std.specs.List.{list_any}
 use Rattle.places.specs.Places.{number_at}
 use Rattle.lx_machine.specs.Pieces.{piece}

@@ -176,7 +176,7 @@ fn access_mode(kind: FileKind) -> u64
 fn status(f: OpenFile) -> u64
     ensures { result ≡ status_of f }
 {
-    access_mode(f.kind) + u64::from(f.nonblocking) * 2048
+    access_mode(f.kind) + u64::from(f.nonblocking) * O_NONBLOCK
 }
 
 /// F_GETFL.
@@ -344,7 +344,12 @@ fn add_end(files: &mut Files, kind: FileKind, file: u32, fd: u32, flags: u64)
 }
 
 /// A pipe at these numbers.
-fn pipe_at(alloc: Global, files: &mut Files, call: &mut LxCall, at: PipeNumbers) -> Result<(), NoMemory>
+fn pipe_at(
+    alloc: Global,
+    files: &mut Files,
+    call: &mut LxCall,
+    at: PipeNumbers,
+) -> Result<(), NoMemory>
     ensures ok { OnOk result (outcome files.new call.new ≡ pipe_at files.old call.old at.pipe at.read_file at.write_file at.read_fd at.write_fd) }
     ensures err { OnErr result ((files.new ≡ files.old) × (call.new ≡ call.old)) }
 {
@@ -352,12 +357,28 @@ fn pipe_at(alloc: Global, files: &mut Files, call: &mut LxCall, at: PipeNumbers)
     let flags = flags(call, 1);
     set_place(&mut files.pipes, at.pipe, Some(parts.room));
     let nonblocking = has_nonblock(flags);
-    add_file(files, at.read_file, FileKind::PipeRead(at.pipe), nonblocking);
-    add_file(files, at.write_file, FileKind::PipeWrite(at.pipe), nonblocking);
+    add_file(
+        files,
+        at.read_file,
+        FileKind::PipeRead(at.pipe),
+        nonblocking,
+    );
+    add_file(
+        files,
+        at.write_file,
+        FileKind::PipeWrite(at.pipe),
+        nonblocking,
+    );
     let close_on_exec = has_cloexec(flags);
-    let read_end = Descriptor { file: at.read_file, close_on_exec };
+    let read_end = Descriptor {
+        file: at.read_file,
+        close_on_exec,
+    };
     set_descriptor(files, at.read_fd, read_end);
-    let write_end = Descriptor { file: at.write_file, close_on_exec };
+    let write_end = Descriptor {
+        file: at.write_file,
+        close_on_exec,
+    };
     set_descriptor(files, at.write_fd, write_end);
     call.answer_with(0, parts.pieces, parts.bytes);
     Ok(())
@@ -372,15 +393,13 @@ fn second_free<T>(places: &[Option<T>], first: u32) -> Option<u32>
     next_free(places, first + 1)
 }
 
-/// The least free numbers for a pipe, where those of its read end are found, or the error where too few are free.
-fn numbers_behind(files: &Files, read_fd: u32, read_file: u32) -> Result<PipeNumbers, LinuxErrno>
-    requires fd { read_fd < 256 }
-    requires file { read_file < 288 }
-    ensures ok { IfOk result (λ at. (c : LxCall) → pipe_from files.now c (Some read_fd) (Some read_file) ≡ pipe_at files.now c at.pipe at.read_file at.write_file at.read_fd at.write_fd) }
-    ensures err { IfErr result (λ e. (c : LxCall) → pipe_from files.now c (Some read_fd) (Some read_file) ≡ refuses files.now c e) }
+/// The least free numbers for a pipe with these two descriptors, or the error where too few are free.
+fn numbers_for(files: &Files, read_fd: u32, write_fd: u32) -> Result<PipeNumbers, LinuxErrno>
+    ensures ok { IfOk result (λ at. (c : LxCall) → pipe_from files.now c read_fd (Some write_fd) ≡ pipe_at files.now c at.pipe at.read_file at.write_file at.read_fd at.write_fd) }
+    ensures err { IfErr result (λ e. (c : LxCall) → pipe_from files.now c read_fd (Some write_fd) ≡ refuses files.now c e) }
 {
-    let Some(write_fd) = second_free(&files.descriptors, read_fd) else {
-        return Err(LinuxErrno::EMFILE);
+    let Some(read_file) = first_free(&files.files) else {
+        return Err(LinuxErrno::ENFILE);
     };
     let Some(pipe) = first_free(&files.pipes) else {
         return Err(LinuxErrno::ENFILE);
@@ -405,10 +424,10 @@ fn free_numbers(files: &Files) -> Result<PipeNumbers, LinuxErrno>
     let Some(read_fd) = first_free(&files.descriptors) else {
         return Err(LinuxErrno::EMFILE);
     };
-    let Some(read_file) = first_free(&files.files) else {
-        return Err(LinuxErrno::ENFILE);
+    let Some(write_fd) = second_free(&files.descriptors, read_fd) else {
+        return Err(LinuxErrno::EMFILE);
     };
-    numbers_behind(files, read_fd, read_file)
+    numbers_for(files, read_fd, write_fd)
 }
 
 /// Makes a pipe with an open file and a descriptor for each of its ends (pipe(2)). Where memory is wanting, nothing

@@ -1,12 +1,11 @@
 //! How SVC enters a call: the refusals that need no look at the machine, in their order. The manual page of each call says
 //! which there are.
 ghost use Rattle.std.specs.Prelude.{◌≡◌, if◌then◌else◌, Some, None, IfOk, OnErr, OnOk};
-ghost use Rattle.lx_machine.specs.declared.threads.LxThread.{LxThread};
 ghost use Rattle.lx_calls.specs.Entry.{first_refusal, has_other, is_unaligned, pages_of, ends_above, is_fixed, wants_execute, vector_refusals, mmap_refusals, munmap_refusals, mprotect_refusals, madvise_refusals, eventfd_refusals, pipe_refusals, dup3_refusals, refusals, first_pieces, entered_as, entered};
 
 use crate::vectors::clip;
 use linux_abi::files::IOV_MAX;
-use linux_abi::memory::Advice;
+use linux_abi::memory::{Advice, MAP_ANONYMOUS, MAP_FIXED, MAP_PRIVATE, MAP_SHARED, PROT_EXEC};
 use linux_abi::{Call, LinuxErrno};
 use lx_machine::buffer::{NoMemory, ROOM};
 use lx_machine::calls::{LxCall, Piece, Pieces};
@@ -14,6 +13,24 @@ use std::alloc::Global;
 
 /// The first address that no program has.
 const ADDRESSES: u128 = 1 << 47;
+
+/// The bytes of a page.
+pub(crate) const PAGE: u64 = 4096;
+
+/// The bytes of a vector (readv(2)).
+const VECTOR: u64 = 16;
+
+/// EFD_SEMAPHORE, EFD_NONBLOCK and EFD_CLOEXEC (eventfd(2)).
+const EVENTFD_FLAGS: u32 = 0x80801;
+
+/// O_NONBLOCK and O_CLOEXEC (pipe(2)).
+const PIPE_FLAGS: u32 = 0x80800;
+
+/// O_CLOEXEC (dup(2)).
+const DUP3_FLAGS: u32 = 0x80000;
+
+/// PROT_READ, PROT_WRITE and PROT_EXEC (mmap(2)).
+const ALL_RIGHTS: u32 = 7;
 
 /// The flags have a bit that is not allowed.
 fn has_other(allowed: u32, flags: u32) -> bool
@@ -26,7 +43,7 @@ fn has_other(allowed: u32, flags: u32) -> bool
 fn is_unaligned(at: u64) -> bool
     ensures { result ≡ is_unaligned at }
 {
-    at % 4096 != 0
+    at % PAGE != 0
 }
 
 /// A length in whole pages, rounded up.
@@ -40,21 +57,21 @@ pub fn pages_of(len: u64) -> u64
 fn ends_above(at: u64, len: u64) -> bool
     ensures { result ≡ ends_above at len }
 {
-    u128::from(at) + u128::from(pages_of(len)) * 4096 > ADDRESSES
+    u128::from(at) + u128::from(pages_of(len)) * u128::from(PAGE) > ADDRESSES
 }
 
 /// MAP_FIXED.
 pub fn is_fixed(flags: u32) -> bool
     ensures { result ≡ is_fixed flags }
 {
-    flags / 16 % 2 == 1
+    u64::from(flags) / MAP_FIXED % 2 == 1
 }
 
 /// PROT_EXEC.
 fn wants_execute(rights: u32) -> bool
     ensures { result ≡ wants_execute rights }
 {
-    rights / 4 % 2 == 1
+    u64::from(rights) / PROT_EXEC % 2 == 1
 }
 
 /// The error, if the test holds.
@@ -68,7 +85,10 @@ fn refused_if(test: bool, e: LinuxErrno) -> Option<LinuxErrno>
 fn vector_refusal(call: &LxCall) -> Option<LinuxErrno>
     ensures { result ≡ first_refusal (vector_refusals call.now) }
 {
-    refused_if(u64::from(call.low_argument(2)) > IOV_MAX, LinuxErrno::EINVAL)
+    refused_if(
+        u64::from(call.low_argument(2)) > IOV_MAX,
+        LinuxErrno::EINVAL,
+    )
 }
 
 /// mmap(2).
@@ -77,21 +97,21 @@ fn mmap_refusal(call: &LxCall) -> Option<LinuxErrno>
 {
     let [at, len, ..] = call.arguments;
     let rights = call.low_argument(2);
-    let flags = call.low_argument(3);
-    if len == 0 || rights > 7 {
+    let flags = u64::from(call.low_argument(3));
+    if len == 0 || rights > ALL_RIGHTS {
         return Some(LinuxErrno::EINVAL);
     }
-    if flags % 4 != 1 && flags % 4 != 2 {
+    if flags % 4 != MAP_SHARED && flags % 4 != MAP_PRIVATE {
         return Some(LinuxErrno::EINVAL);
     }
-    if flags / 32 % 2 == 0 {
+    if flags / MAP_ANONYMOUS % 2 == 0 {
         return Some(LinuxErrno::ENODEV);
     }
     if wants_execute(rights) {
         return Some(LinuxErrno::EACCES);
     }
     refused_if(
-        is_fixed(flags) && (is_unaligned(at) || ends_above(at, len)),
+        is_fixed(call.low_argument(3)) && (is_unaligned(at) || ends_above(at, len)),
         LinuxErrno::EINVAL,
     )
 }
@@ -112,7 +132,7 @@ fn mprotect_refusal(call: &LxCall) -> Option<LinuxErrno>
     ensures { result ≡ first_refusal (mprotect_refusals call.now) }
 {
     let rights = call.low_argument(2);
-    if is_unaligned(call.arguments[0]) || rights > 7 {
+    if is_unaligned(call.arguments[0]) || rights > ALL_RIGHTS {
         return Some(LinuxErrno::EINVAL);
     }
     refused_if(wants_execute(rights), LinuxErrno::EACCES)
@@ -138,21 +158,30 @@ fn dup3_refusal(call: &LxCall) -> Option<LinuxErrno>
     if call.low_argument(0) == call.low_argument(1) {
         return Some(LinuxErrno::EINVAL);
     }
-    refused_if(has_other(0x80000, call.low_argument(2)), LinuxErrno::EINVAL)
+    refused_if(
+        has_other(DUP3_FLAGS, call.low_argument(2)),
+        LinuxErrno::EINVAL,
+    )
 }
 
 /// eventfd(2).
 fn eventfd_refusal(call: &LxCall) -> Option<LinuxErrno>
     ensures { result ≡ first_refusal (eventfd_refusals call.now) }
 {
-    refused_if(has_other(0x80801, call.low_argument(1)), LinuxErrno::EINVAL)
+    refused_if(
+        has_other(EVENTFD_FLAGS, call.low_argument(1)),
+        LinuxErrno::EINVAL,
+    )
 }
 
 /// pipe(2).
 fn pipe_refusal(call: &LxCall) -> Option<LinuxErrno>
     ensures { result ≡ first_refusal (pipe_refusals call.now) }
 {
-    refused_if(has_other(0x80800, call.low_argument(1)), LinuxErrno::EINVAL)
+    refused_if(
+        has_other(PIPE_FLAGS, call.low_argument(1)),
+        LinuxErrno::EINVAL,
+    )
 }
 
 /// What refuses a call at its entry.
@@ -179,10 +208,38 @@ fn first_pieces(alloc: Global, call: &LxCall, kind: Call) -> Result<Pieces, NoMe
 {
     let at = call.arguments[1];
     match kind {
-        Call::Read => clip(alloc, ROOM as u64, &[Piece { at, len: call.arguments[2] }]),
-        Call::Write => clip(alloc, ROOM as u64, &[Piece { at, len: call.arguments[2] }]),
-        Call::Readv => clip(alloc, ROOM as u64, &[Piece { at, len: u64::from(call.low_argument(2)) * 16 }]),
-        Call::Writev => clip(alloc, ROOM as u64, &[Piece { at, len: u64::from(call.low_argument(2)) * 16 }]),
+        Call::Read => clip(
+            alloc,
+            ROOM as u64,
+            &[Piece {
+                at,
+                len: call.arguments[2],
+            }],
+        ),
+        Call::Write => clip(
+            alloc,
+            ROOM as u64,
+            &[Piece {
+                at,
+                len: call.arguments[2],
+            }],
+        ),
+        Call::Readv => clip(
+            alloc,
+            ROOM as u64,
+            &[Piece {
+                at,
+                len: u64::from(call.low_argument(2)) * VECTOR,
+            }],
+        ),
+        Call::Writev => clip(
+            alloc,
+            ROOM as u64,
+            &[Piece {
+                at,
+                len: u64::from(call.low_argument(2)) * VECTOR,
+            }],
+        ),
         _ => Ok(Pieces::none(alloc)),
     }
 }

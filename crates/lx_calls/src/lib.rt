@@ -4,8 +4,12 @@
 pub mod descriptors;
 pub mod entry;
 pub mod files;
-pub mod shape;
+pub mod memory_calls;
+pub mod process_calls;
 pub mod reads;
+pub mod shape;
+#[cfg(test)]
+mod tests;
 pub mod transfers;
 pub mod vectors;
 pub mod writes;

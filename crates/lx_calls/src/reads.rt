@@ -15,7 +15,7 @@ use linux_abi::LinuxErrno;
 use lx_machine::buffer::{Bytes, NoMemory, Room};
 use lx_machine::calls::{LxCall, Piece};
 use lx_machine::files::{Counter, FileKind, Files, Input, OpenFile};
-use lx_machine::step::NoStep;
+use lx_machine::refusal::LxRefusal;
 use std::alloc::Global;
 
 /// The lengths of the pieces together, as far as they are counted.
@@ -65,7 +65,13 @@ fn end_with_bytes(files: &mut Files, call: &mut LxCall, file: u32, bytes: Bytes)
 }
 
 /// A read from a pipe that holds nothing.
-fn read_nothing(files: &mut Files, call: &mut LxCall, file: u32, f: OpenFile, pipe: u32) -> Result<bool, NoStep>
+fn read_nothing(
+    files: &mut Files,
+    call: &mut LxCall,
+    file: u32,
+    f: OpenFile,
+    pipe: u32,
+) -> Result<bool, LxRefusal>
     ensures { Makes (read_pipe files.old call.old file f pipe []) files.old call.old files.new call.new result }
 {
     if has_writer(files, pipe) {
@@ -76,7 +82,11 @@ fn read_nothing(files: &mut Files, call: &mut LxCall, file: u32, f: OpenFile, pi
 }
 
 /// The first bytes of the pipe of a place, if there is one, as many as the pieces take, are taken out.
-fn take_from_place(alloc: Global, place: &mut Option<Room>, pieces: &[Piece]) -> Result<Bytes, NoMemory>
+fn take_from_place(
+    alloc: Global,
+    place: &mut Option<Room>,
+    pieces: &[Piece],
+) -> Result<Bytes, NoMemory>
     ensures bytes { IfOk result (λ bytes. bytes ≡ take (total pieces.now) (held_in place.old)) }
     ensures left { OnOk result (place.new ≡ option_map (drop (total pieces.now)) place.old) }
     ensures err { OnErr result (place.new ≡ place.old) }
@@ -89,7 +99,12 @@ fn take_from_place(alloc: Global, place: &mut Option<Room>, pieces: &[Piece]) ->
 
 /// The first bytes of a pipe, as many as the pieces take, are taken out.
 #[tactic(auto, using(std::proofs::lemmas::List::set_past))]
-fn take_from_pipe(alloc: Global, pipes: &mut [Option<Room>], pipe: u32, pieces: &[Piece]) -> Result<Bytes, NoMemory>
+fn take_from_pipe(
+    alloc: Global,
+    pipes: &mut [Option<Room>],
+    pipe: u32,
+    pieces: &[Piece],
+) -> Result<Bytes, NoMemory>
     ensures bytes { IfOk result (λ bytes. bytes ≡ take (total pieces.now) (held_in (at_place pipes.old pipe))) }
     ensures left { OnOk result (pipes.new ≡ slice_set pipes.old pipe (option_map (drop (total pieces.now)) (at_place pipes.old pipe))) }
     ensures err { OnErr result (pipes.new ≡ pipes.old) }
@@ -103,11 +118,18 @@ fn take_from_pipe(alloc: Global, pipes: &mut [Option<Room>], pipe: u32, pieces: 
 }
 
 /// A read of some bytes from a pipe.
-fn read_from_pipe(alloc: Global, files: &mut Files, call: &mut LxCall, file: u32, f: OpenFile, pipe: u32) -> Result<bool, NoStep>
+fn read_from_pipe(
+    alloc: Global,
+    files: &mut Files,
+    call: &mut LxCall,
+    file: u32,
+    f: OpenFile,
+    pipe: u32,
+) -> Result<bool, LxRefusal>
     ensures { Makes (bind (at_place files.old.pipes pipe) (read_pipe files.old call.old file f pipe)) files.old call.old files.new call.new result }
 {
     let Some(Some(room)) = files.pipes.get(pipe as usize) else {
-        return Err(NoStep::NotEnabled);
+        return Err(LxRefusal::NoStep);
     };
     if room.held() == 0 {
         return read_nothing(files, call, file, f, pipe);
@@ -118,7 +140,14 @@ fn read_from_pipe(alloc: Global, files: &mut Files, call: &mut LxCall, file: u32
 }
 
 /// A read from a pipe: one of no bytes answers 0.
-fn read_pipe(alloc: Global, files: &mut Files, call: &mut LxCall, file: u32, f: OpenFile, pipe: u32) -> Result<bool, NoStep>
+fn read_pipe(
+    alloc: Global,
+    files: &mut Files,
+    call: &mut LxCall,
+    file: u32,
+    f: OpenFile,
+    pipe: u32,
+) -> Result<bool, LxRefusal>
     ensures { Makes (read_move files.old call.old file f (kind.PipeRead pipe)) files.old call.old files.new call.new result }
 {
     if total(call.pieces.as_slice()) == 0 {
@@ -129,7 +158,13 @@ fn read_pipe(alloc: Global, files: &mut Files, call: &mut LxCall, file: u32, f: 
 }
 
 /// A read from the input: one of no bytes answers 0.
-fn read_input(alloc: Global, files: &mut Files, call: &mut LxCall, file: u32, f: OpenFile) -> Result<bool, NoStep>
+fn read_input(
+    alloc: Global,
+    files: &mut Files,
+    call: &mut LxCall,
+    file: u32,
+    f: OpenFile,
+) -> Result<bool, LxRefusal>
     ensures { Makes (read_move files.old call.old file f kind.Input) files.old call.old files.new call.new result }
 {
     if total(call.pieces.as_slice()) == 0 {
@@ -160,7 +195,14 @@ fn eight_bytes(alloc: Global, n: u64) -> Result<Bytes, NoMemory>
 }
 
 /// A read of a counter that is not 0 takes this from it.
-fn count_down(alloc: Global, files: &mut Files, call: &mut LxCall, file: u32, number: u32, counter: Counter) -> Result<(), NoMemory>
+fn count_down(
+    alloc: Global,
+    files: &mut Files,
+    call: &mut LxCall,
+    file: u32,
+    number: u32,
+    counter: Counter,
+) -> Result<(), NoMemory>
     requires { 0 < counter.value }
     ensures ok { OnOk result (reads_bytes (with_counter files.old number (counted_down counter)) call.old file (bytes_of (counted counter) 8) ≡ Some (outcome files.new call.new)) }
     ensures err { OnErr result ((files.new ≡ files.old) × (call.new ≡ call.old)) }
@@ -177,7 +219,15 @@ fn count_down(alloc: Global, files: &mut Files, call: &mut LxCall, file: u32, nu
 }
 
 /// A read of this counter.
-fn read_count(alloc: Global, files: &mut Files, call: &mut LxCall, file: u32, f: OpenFile, number: u32, counter: Counter) -> Result<bool, NoStep>
+fn read_count(
+    alloc: Global,
+    files: &mut Files,
+    call: &mut LxCall,
+    file: u32,
+    f: OpenFile,
+    number: u32,
+    counter: Counter,
+) -> Result<bool, LxRefusal>
     ensures { Makes (read_counter files.old call.old file f number counter) files.old call.old files.new call.new result }
 {
     if total(call.pieces.as_slice()) < 8 {
@@ -192,25 +242,38 @@ fn read_count(alloc: Global, files: &mut Files, call: &mut LxCall, file: u32, f:
 }
 
 /// A read of a counter.
-fn read_counter(alloc: Global, files: &mut Files, call: &mut LxCall, file: u32, f: OpenFile, number: u32) -> Result<bool, NoStep>
+fn read_counter(
+    alloc: Global,
+    files: &mut Files,
+    call: &mut LxCall,
+    file: u32,
+    f: OpenFile,
+    number: u32,
+) -> Result<bool, LxRefusal>
     ensures { Makes (read_move files.old call.old file f (kind.Counter number)) files.old call.old files.new call.new result }
 {
     match place_at(&files.counters, number) {
         Some(counter) => read_count(alloc, files, call, file, f, number, counter),
-        None => Err(NoStep::NotEnabled),
+        None => Err(LxRefusal::NoStep),
     }
 }
 
 /// Moves the bytes of a read.
-pub(crate) fn read_move(alloc: Global, files: &mut Files, call: &mut LxCall, file: u32, f: OpenFile) -> Result<bool, NoStep>
+pub(crate) fn read_move(
+    alloc: Global,
+    files: &mut Files,
+    call: &mut LxCall,
+    file: u32,
+    f: OpenFile,
+) -> Result<bool, LxRefusal>
     ensures { Makes (read_move files.old call.old file f f.kind) files.old call.old files.new call.new result }
 {
     match f.kind {
         FileKind::Input => read_input(alloc, files, call, file, f),
         FileKind::PipeRead(pipe) => read_pipe(alloc, files, call, file, f, pipe),
         FileKind::Counter(number) => read_counter(alloc, files, call, file, f, number),
-        FileKind::Console(_) => Err(NoStep::NotEnabled),
-        FileKind::PipeWrite(_) => Err(NoStep::NotEnabled),
-        FileKind::Epoll(_) => Err(NoStep::NotEnabled),
+        FileKind::Console(_) => Err(LxRefusal::NoStep),
+        FileKind::PipeWrite(_) => Err(LxRefusal::NoStep),
+        FileKind::Epoll(_) => Err(LxRefusal::NoStep),
     }
 }

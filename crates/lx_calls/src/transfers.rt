@@ -1,6 +1,6 @@
 //! The steps of read(2), write(2), readv(2) and writev(2) that hold an open file, give it back, and move bytes.
-ghost use Rattle.std.specs.Prelude.{◌≡◌, Some, None, OnErr, OnOk};
-ghost use Rattle.lx_calls.specs.Transfers.{outcome, is_read, direction_refusal, hold_file, held, lets_go, dropped, waits, ends_with, ends_refused, move_file, moved, Makes, with_broken_pipe};
+ghost use Rattle.std.specs.Prelude.{◌≡◌, false, Some, None, OnErr, OnOk};
+ghost use Rattle.lx_calls.specs.Transfers.{outcome, is_read, direction_refusal, hold_file, held, lets_go, dropped, waits, ends_with, ends_refused, move_file, moved, Makes, has_room_for_broken_pipe, with_broken_pipe};
 
 use crate::files::{give_back, hold_once, place_at};
 use crate::reads::read_move;
@@ -9,8 +9,8 @@ use linux_abi::{Call, LinuxErrno, LinuxSig};
 use lx_machine::buffer::NoMemory;
 use lx_machine::calls::LxCall;
 use lx_machine::files::{FileKind, Files, OpenFile};
+use lx_machine::refusal::LxRefusal;
 use lx_machine::signals::{Origin, Pending, SigInfo};
-use lx_machine::step::NoStep;
 use std::alloc::Global;
 
 /// Whether the call reads.
@@ -80,7 +80,7 @@ pub(crate) fn finish(files: &mut Files, call: &mut LxCall, file: u32)
 }
 
 /// The call gives its open file back. Not enabled: it holds none.
-pub fn let_go(files: &mut Files, call: &mut LxCall) -> Result<(), NoStep>
+pub fn let_go(files: &mut Files, call: &mut LxCall) -> Result<(), LxRefusal>
     ensures ok { OnOk result (dropped files.old call.old ≡ Some (outcome files.new call.new)) }
     ensures err { OnErr result (dropped files.old call.old ≡ None) }
     ensures kept { OnErr result ((files.new ≡ files.old) × (call.new ≡ call.old)) }
@@ -90,7 +90,7 @@ pub fn let_go(files: &mut Files, call: &mut LxCall) -> Result<(), NoStep>
             finish(files, call, file);
             Ok(())
         }
-        None => Err(NoStep::NotEnabled),
+        None => Err(LxRefusal::NoStep),
     }
 }
 
@@ -111,18 +111,29 @@ pub(crate) fn end_refused(files: &mut Files, call: &mut LxCall, file: u32, e: Li
 }
 
 /// A move that has to wait.
-pub(crate) fn wait(files: &mut Files, call: &mut LxCall, file: u32, f: OpenFile) -> Result<bool, NoStep>
+pub(crate) fn wait(
+    files: &mut Files,
+    call: &mut LxCall,
+    file: u32,
+    f: OpenFile,
+) -> Result<bool, LxRefusal>
     ensures { Makes (waits files.old call.old file f) files.old call.old files.new call.new result }
 {
     if !f.nonblocking {
-        return Err(NoStep::NotEnabled);
+        return Err(LxRefusal::NoStep);
     }
     end_refused(files, call, file, LinuxErrno::EAGAIN);
     Ok(false)
 }
 
 /// Moves bytes between the call and this open file.
-fn move_file(alloc: Global, files: &mut Files, call: &mut LxCall, file: u32, f: OpenFile) -> Result<bool, NoStep>
+fn move_file(
+    alloc: Global,
+    files: &mut Files,
+    call: &mut LxCall,
+    file: u32,
+    f: OpenFile,
+) -> Result<bool, LxRefusal>
     ensures { Makes (move_file files.old call.old file f) files.old call.old files.new call.new result }
 {
     if is_read(call) {
@@ -135,16 +146,23 @@ fn move_file(alloc: Global, files: &mut Files, call: &mut LxCall, file: u32, f: 
 /// Moves bytes between the call and its open file (read(2), write(2), pipe(7), eventfd(2)), and tells whether the thread
 /// gets SIGPIPE. Not enabled: it has to wait, or holds no open file that bytes move to or from. Then, and where memory is
 /// wanting, nothing changes.
-pub fn move_bytes(alloc: Global, files: &mut Files, call: &mut LxCall) -> Result<bool, NoStep>
+pub fn move_bytes(alloc: Global, files: &mut Files, call: &mut LxCall) -> Result<bool, LxRefusal>
     ensures { Makes (moved files.old call.old) files.old call.old files.new call.new result }
 {
     let Some(file) = call.held else {
-        return Err(NoStep::NotEnabled);
+        return Err(LxRefusal::NoStep);
     };
     match place_at(&files.files, file) {
         Some(f) => move_file(alloc, files, call, file, f),
-        None => Err(NoStep::NotEnabled),
+        None => Err(LxRefusal::NoStep),
     }
+}
+
+/// Whether SIGPIPE can become pending: it is ignored or pending already, or there is room for it.
+pub fn has_room_for_broken_pipe(pending: &Pending, is_ignored: bool) -> bool
+    ensures { result ≡ has_room_for_broken_pipe is_ignored pending.now }
+{
+    is_ignored || pending.has(LinuxSig::SIGPIPE) || !pending.is_full()
 }
 
 /// SIGPIPE becomes pending for a thread whose pipe broke (write(2)), unless it is ignored or pending already. `NoMemory`:
@@ -152,6 +170,7 @@ pub fn move_bytes(alloc: Global, files: &mut Files, call: &mut LxCall) -> Result
 pub fn send_broken_pipe(pending: &mut Pending, is_ignored: bool) -> Result<(), NoMemory>
     ensures ok { OnOk result (pending.new ≡ with_broken_pipe is_ignored pending.old) }
     ensures err { OnErr result (pending.new ≡ pending.old) }
+    ensures full { OnErr result (has_room_for_broken_pipe is_ignored pending.old ≡ false) }
 {
     if is_ignored || pending.has(LinuxSig::SIGPIPE) {
         return Ok(());

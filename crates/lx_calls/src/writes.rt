@@ -14,7 +14,7 @@ use lx_machine::buffer::{Bytes, NoMemory, ROOM, Room};
 use lx_machine::calls::LxCall;
 use lx_machine::files::{Counter, FileKind, Files, OpenFile};
 use lx_machine::label::LxSide;
-use lx_machine::step::NoStep;
+use lx_machine::refusal::LxRefusal;
 
 /// The most bytes that a write moves all or none of (pipe(7), PIPE_BUF).
 const PIPE_BUF: u64 = 4096;
@@ -56,7 +56,12 @@ fn wrote(files: &mut Files, call: &mut LxCall, file: u32, f: OpenFile, n: usize,
 }
 
 /// A write that can move nothing.
-fn write_nothing(files: &mut Files, call: &mut LxCall, file: u32, f: OpenFile) -> Result<bool, NoStep>
+fn write_nothing(
+    files: &mut Files,
+    call: &mut LxCall,
+    file: u32,
+    f: OpenFile,
+) -> Result<bool, LxRefusal>
     ensures { Makes (write_waits files.old call.old file f) files.old call.old files.new call.new result }
 {
     if f.nonblocking && call.moved > 0 {
@@ -80,13 +85,13 @@ fn break_pipe(files: &mut Files, call: &mut LxCall, file: u32)
 }
 
 /// What a write has moved once n more bytes have gone in.
-fn moved_with(call: &LxCall, n: usize) -> Result<u64, NoStep>
+fn moved_with(call: &LxCall, n: usize) -> Result<u64, LxRefusal>
     ensures ok { IfOk result (λ moved. moved ≡ call.now.moved + n) }
-    ensures err { IfErr result (λ e. e ≡ NoStep.NoMemory) }
+    ensures err { IfErr result (λ e. e ≡ LxRefusal.NoMemory) }
 {
     match call.moved.checked_add(n as u64) {
         Some(moved) => Ok(moved),
-        None => Err(NoStep::NoMemory),
+        None => Err(LxRefusal::NoMemory),
     }
 }
 
@@ -113,11 +118,17 @@ fn put_into_pipe(pipes: &mut [Option<Room>], pipe: u32, bytes: &[u8])
 }
 
 /// A write of some bytes to a pipe.
-fn write_to_pipe(files: &mut Files, call: &mut LxCall, file: u32, f: OpenFile, pipe: u32) -> Result<bool, NoStep>
+fn write_to_pipe(
+    files: &mut Files,
+    call: &mut LxCall,
+    file: u32,
+    f: OpenFile,
+    pipe: u32,
+) -> Result<bool, LxRefusal>
     ensures { Makes (bind (at_place files.old.pipes pipe) (write_pipe files.old call.old file f pipe)) files.old call.old files.new call.new result }
 {
     let Some(Some(room)) = files.pipes.get(pipe as usize) else {
-        return Err(NoStep::NotEnabled);
+        return Err(LxRefusal::NoStep);
     };
     let n = goes_in(call, room);
     if !has_reader(files, pipe) {
@@ -134,7 +145,13 @@ fn write_to_pipe(files: &mut Files, call: &mut LxCall, file: u32, f: OpenFile, p
 }
 
 /// A write to a pipe: one of no bytes answers 0.
-fn write_pipe(files: &mut Files, call: &mut LxCall, file: u32, f: OpenFile, pipe: u32) -> Result<bool, NoStep>
+fn write_pipe(
+    files: &mut Files,
+    call: &mut LxCall,
+    file: u32,
+    f: OpenFile,
+    pipe: u32,
+) -> Result<bool, LxRefusal>
     ensures { Makes (write_move files.old call.old file f (kind.PipeWrite pipe)) files.old call.old files.new call.new result }
 {
     if is_at_most(call, 0) {
@@ -181,7 +198,13 @@ fn put_into_console(files: &mut Files, which: LxSide, bytes: &[u8]) -> Result<()
 }
 
 /// A write of some bytes to a console.
-fn write_to_console(files: &mut Files, call: &mut LxCall, file: u32, f: OpenFile, which: LxSide) -> Result<bool, NoStep>
+fn write_to_console(
+    files: &mut Files,
+    call: &mut LxCall,
+    file: u32,
+    f: OpenFile,
+    which: LxSide,
+) -> Result<bool, LxRefusal>
     ensures { Makes (write_console files.old call.old file f which) files.old call.old files.new call.new result }
 {
     let n = goes_into_console(files, call, which);
@@ -195,7 +218,13 @@ fn write_to_console(files: &mut Files, call: &mut LxCall, file: u32, f: OpenFile
 }
 
 /// A write to a console: one of no bytes answers 0.
-fn write_console(files: &mut Files, call: &mut LxCall, file: u32, f: OpenFile, which: LxSide) -> Result<bool, NoStep>
+fn write_console(
+    files: &mut Files,
+    call: &mut LxCall,
+    file: u32,
+    f: OpenFile,
+    which: LxSide,
+) -> Result<bool, LxRefusal>
     ensures { Makes (write_move files.old call.old file f (kind.Console which)) files.old call.old files.new call.new result }
 {
     if is_at_most(call, 0) {
@@ -206,7 +235,15 @@ fn write_console(files: &mut Files, call: &mut LxCall, file: u32, f: OpenFile, w
 }
 
 /// A write that adds this number to a counter.
-fn add_to_counter(files: &mut Files, call: &mut LxCall, file: u32, f: OpenFile, number: u32, counter: Counter, added: u64) -> Result<bool, NoStep>
+fn add_to_counter(
+    files: &mut Files,
+    call: &mut LxCall,
+    file: u32,
+    f: OpenFile,
+    number: u32,
+    counter: Counter,
+    added: u64,
+) -> Result<bool, LxRefusal>
     ensures { Makes (if nat_lt (2 ^ 64 - 2) (counter.value + added) then waits files.old call.old file f else ends_with (with_counter files.old number record counter { value = counter.value + added }) call.old file 8) files.old call.old files.new call.new result }
 {
     match counter.value.checked_add(added) {
@@ -224,7 +261,14 @@ fn add_to_counter(files: &mut Files, call: &mut LxCall, file: u32, f: OpenFile, 
 }
 
 /// A write to this counter.
-fn write_count(files: &mut Files, call: &mut LxCall, file: u32, f: OpenFile, at: u32, counter: Counter) -> Result<bool, NoStep>
+fn write_count(
+    files: &mut Files,
+    call: &mut LxCall,
+    file: u32,
+    f: OpenFile,
+    at: u32,
+    counter: Counter,
+) -> Result<bool, LxRefusal>
     ensures { Makes (write_counter files.old call.old file f at counter) files.old call.old files.new call.new result }
 {
     let bytes = call.bytes.as_slice();
@@ -241,25 +285,36 @@ fn write_count(files: &mut Files, call: &mut LxCall, file: u32, f: OpenFile, at:
 }
 
 /// A write to a counter.
-fn write_counter(files: &mut Files, call: &mut LxCall, file: u32, f: OpenFile, at: u32) -> Result<bool, NoStep>
+fn write_counter(
+    files: &mut Files,
+    call: &mut LxCall,
+    file: u32,
+    f: OpenFile,
+    at: u32,
+) -> Result<bool, LxRefusal>
     ensures { Makes (write_move files.old call.old file f (kind.Counter at)) files.old call.old files.new call.new result }
 {
     match place_at(&files.counters, at) {
         Some(counter) => write_count(files, call, file, f, at, counter),
-        None => Err(NoStep::NotEnabled),
+        None => Err(LxRefusal::NoStep),
     }
 }
 
 /// Moves the bytes of a write.
-pub(crate) fn write_move(files: &mut Files, call: &mut LxCall, file: u32, f: OpenFile) -> Result<bool, NoStep>
+pub(crate) fn write_move(
+    files: &mut Files,
+    call: &mut LxCall,
+    file: u32,
+    f: OpenFile,
+) -> Result<bool, LxRefusal>
     ensures { Makes (write_move files.old call.old file f f.kind) files.old call.old files.new call.new result }
 {
     match f.kind {
         FileKind::Console(which) => write_console(files, call, file, f, which),
         FileKind::PipeWrite(pipe) => write_pipe(files, call, file, f, pipe),
         FileKind::Counter(number) => write_counter(files, call, file, f, number),
-        FileKind::Input => Err(NoStep::NotEnabled),
-        FileKind::PipeRead(_) => Err(NoStep::NotEnabled),
-        FileKind::Epoll(_) => Err(NoStep::NotEnabled),
+        FileKind::Input => Err(LxRefusal::NoStep),
+        FileKind::PipeRead(_) => Err(LxRefusal::NoStep),
+        FileKind::Epoll(_) => Err(LxRefusal::NoStep),
     }
 }

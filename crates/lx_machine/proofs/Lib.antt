@@ -1,2 +1,3 @@
+pub mod HighestGaps
 pub mod Lacking
 pub mod PageTests

@@ -1,5 +1,5 @@
 -- Calls that have been entered: how they stand, and what follows of a result. Source: syscall(2), intro(2), errno(3).
-use Rattle.std.specs.Prelude.{ℕ, ◌+◌, ◌%◌, ◌^◌, false, min, List, [], ◌∷◌, length, Option, Some, None, slice_index}
+use Rattle.std.specs.Prelude.{ℕ, ◌%◌, ◌^◌, false, min, List, [], ◌∷◌, length, Option, Some, None, slice_index}
 use Rattle.linux_abi.specs.LinuxErrno.{answer_of}
 use Rattle.linux_abi.specs.declared.errno.LinuxErrno.{LinuxErrno}
 use Rattle.lx_machine.specs.Pieces.{piece}

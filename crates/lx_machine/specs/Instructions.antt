@@ -1,5 +1,5 @@
 -- Instr: the instruction at pc, whose access is one step of memory (DDI 0487, C6.2; the exclusive monitors of B2.9).
-use Rattle.std.specs.Prelude.{ℕ, ◌+◌, ◌-◌, ◌%◌, ◌^◌, Bool, true, false, ◌&&◌, ◌==◌, if◌then◌else◌, List, ◌++◌, length, take, slice_index, replicate, Option, Some, None, Result, Ok, Err, ℤ, pos}
+use Rattle.std.specs.Prelude.{ℕ, ◌-◌, ◌%◌, Bool, true, false, ◌==◌, if◌then◌else◌, List, ◌++◌, length, take, slice_index, replicate, Option, Some, None, Result, Ok, Err, pos}
 use Rattle.std.proofs.Math.Bool.{not}
 use Rattle.places.specs.Places as place
 use Rattle.places.specs.Places.{bytes_of, number_of}

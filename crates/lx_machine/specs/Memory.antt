@@ -1,6 +1,6 @@
 -- How instructions and calls look at memory. Source: mmap(2), mprotect(2); the limit of the address space is this
 -- project's own.
-use Rattle.std.specs.Prelude.{ℕ, zero, suc, ◌+◌, ◌-◌, ◌^◌, ◌%◌, Bool, true, false, ◌&&◌, ◌||◌, nat_lt, nat_le, Option, Some, None, is_some, if◌then◌else◌}
+use Rattle.std.specs.Prelude.{ℕ, zero, suc, ◌-◌, ◌^◌, ◌%◌, Bool, true, ◌&&◌, nat_le, Option, Some, None, is_some, if◌then◌else◌}
 use Rattle.std.proofs.Math.Bool.{not}
 use Rattle.std.specs.FinMap as map
 use Rattle.lx_memory.specs.Access.{has, lacks, allows}

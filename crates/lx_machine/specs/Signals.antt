@@ -1,11 +1,9 @@
 -- MayTake, and what a signal does by default (signal(7)).
-use Rattle.std.specs.Prelude.{ℕ, ◌+◌, ◌-◌, ◌/◌, ◌%◌, ◌^◌, ◌==◌, Bool, true, false, ◌&&◌, ◌||◌, nat_lt, if◌then◌else◌, List, [], ◌∷◌, Option, Some, None, slice_index_or, find}
+use Rattle.std.specs.Prelude.{ℕ, ◌/◌, ◌%◌, ◌^◌, ◌==◌, Bool, ◌&&◌, nat_lt, if◌then◌else◌, List, [], ◌∷◌}
 use Rattle.std.proofs.Math.Bool.{not}
 use Rattle.std.specs.List.{list_any}
-use Rattle.linux_abi.specs.LinuxSig.{signal_number, linux_bit, is_real_time, is_dropped_by_default}
+use Rattle.linux_abi.specs.LinuxSig.{signal_number, linux_bit, is_real_time}
 use Rattle.linux_abi.specs.declared.signals.LinuxSig.{LinuxSig}
-use Rattle.lx_machine.specs.declared.label.PendingList.{PendingList}
-use Rattle.lx_machine.specs.declared.label.PendingList.TheVariants.{Own, Shared}
 use Rattle.lx_machine.specs.declared.signals.SigInfo.{SigInfo}
 
 -- a set of signals has this one

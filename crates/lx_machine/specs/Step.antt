@@ -1,13 +1,10 @@
 -- LStep: one step of the Linux machine, over a table of what the calls do; and LRun, a run of it. A label whose call is
 -- not built has no step, and a guest that has ended has none.
-use Rattle.std.specs.Prelude.{ℕ, zero, suc, ◌+◌, ◌-◌, ◌%◌, ◌^◌, ◌==◌, Bool, true, false, ◌&&◌, ◌||◌, nat_le, if◌then◌else◌, List, [], ◌∷◌, ◌++◌, length, take, drop, Option, Some, None, is_some, slice_index_or, slice_set, ℤ, pos}
+use Rattle.std.specs.Prelude.{ℕ, ◌+◌, ◌-◌, ◌==◌, Bool, ◌&&◌, ◌||◌, nat_le, if◌then◌else◌, List, [], ◌∷◌, ◌++◌, length, take, drop, Option, Some, None, is_some, slice_index_or, slice_set}
 use Rattle.std.proofs.Math.Bool.{not}
-use Rattle.std.specs.FinMap as map
-use Rattle.places.specs.Places as place
 use Rattle.linux_abi.specs.LinuxSig.{signal_number, is_dropped_by_default}
 use Rattle.linux_abi.specs.declared.errno.LinuxErrno.TheVariants as errno
 use Rattle.linux_abi.specs.declared.signals.LinuxSig.{LinuxSig}
-use Rattle.linux_abi.specs.declared.signals.LinuxSig.TheVariants as signal
 use Rattle.lx_machine.specs.Lists.{bind, at_place}
 use Rattle.lx_machine.specs.Pieces.{without_first}
 use Rattle.lx_machine.specs.Calls.{refused}
@@ -15,9 +12,9 @@ use Rattle.lx_memory.specs.Bytes.{bytes_at}
 use Rattle.lx_memory.specs.declared.right.Right.TheVariants.{Read, Write}
 use Rattle.lx_machine.specs.Memory.{is_allowed}
 use Rattle.lx_machine.specs.declared.state.LinuxState.{LinuxState}
-use Rattle.lx_machine.specs.Threads.{with_thread, with_call, in_call_of}
+use Rattle.lx_machine.specs.Threads.{with_thread, in_call_of}
 use Rattle.lx_machine.specs.Instructions.{instruction, stored}
-use Rattle.lx_machine.specs.Signals.{has_signal, may_take, has_unblocked, without_signal, is_of}
+use Rattle.lx_machine.specs.Signals.{has_signal, may_take, has_unblocked, without_signal}
 use Rattle.lx_machine.specs.declared.calls.LxCall.{LxCall}
 use Rattle.lx_machine.specs.declared.calls.Piece.{Piece}
 use Rattle.lx_machine.specs.declared.calls.Stage.{Stage}
@@ -33,7 +30,7 @@ use Rattle.lx_machine.specs.declared.signals.Action.{Action}
 use Rattle.lx_machine.specs.declared.signals.SigInfo.{SigInfo}
 use Rattle.lx_machine.specs.declared.threads.LxThread.{LxThread}
 use Rattle.lx_machine.specs.declared.threads.GuestEnd.{GuestEnd}
-use Rattle.lx_machine.specs.declared.threads.GuestEnd.TheVariants.{Exited, Killed}
+use Rattle.lx_machine.specs.declared.threads.GuestEnd.TheVariants.{Killed}
 
 -- what the calls do: a call as it has been entered, with its refusal if it is refused at entry; what a call without a
 -- result does next; a call after it has fetched the bytes of a piece; and the steps Hold, Drop, Effect, Move and Leave.

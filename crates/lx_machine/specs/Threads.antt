@@ -1,15 +1,13 @@
 -- Words on threads. A mark is the exclusive monitor of a thread (DDI 0487, B2.9): it ends by a write of another thread to
 -- its granule.
-use Rattle.std.specs.Prelude.{ℕ, suc, ◌+◌, ◌-◌, ◌==◌, Bool, ◌&&◌, ◌||◌, nat_le, if◌then◌else◌, List, [], ◌∷◌, length, Option, Some, None, ℤ}
-use Rattle.std.proofs.Math.Bool.{not}
+use Rattle.std.specs.Prelude.{ℕ, suc, ◌+◌, ◌-◌, ◌==◌, Bool, ◌&&◌, nat_le, if◌then◌else◌, List, [], ◌∷◌, Option, Some, None, ℤ}
 use Rattle.places.specs.Places as place
 use Rattle.a64_model.specs.declared.regs.Regs.{Regs}
 use Rattle.linux_abi.specs.declared.signals.LinuxSig.{LinuxSig}
 use Rattle.lx_machine.specs.Lists.{with_place}
 use Rattle.lx_machine.specs.declared.state.LinuxState.{LinuxState}
 use Rattle.lx_machine.specs.declared.calls.LxCall.{LxCall}
-use Rattle.lx_machine.specs.declared.signals.SigInfo.{SigInfo}
-use Rattle.lx_machine.specs.declared.signals.Origin.TheVariants.{Sender, Address}
+use Rattle.lx_machine.specs.declared.signals.Origin.TheVariants.{Address}
 use Rattle.lx_machine.specs.declared.threads.LxThread.{LxThread}
 
 -- the thread in slot s is this

@@ -9,7 +9,7 @@ use std::alloc::Global;
 use std::marker::Model;
 
 /// A range of guest memory that a call copies in or out: its address and its length in bytes.
-#[derive(Clone, Copy)]
+#[derive(Clone, Copy, Debug, PartialEq, Eq)]
 pub struct Piece {
     pub at: u64,
     pub len: u64,
@@ -148,7 +148,7 @@ impl LxCall {
 }
 
 /// What a call does next.
-#[derive(Clone, Copy)]
+#[derive(Clone, Copy, Debug, PartialEq, Eq)]
 pub enum Stage {
     /// Copies the piece in.
     Fetch(Piece),

@@ -1,5 +1,7 @@
 //! Signals, their information and their actions, in Linux numbers (signal(7), sigaction(2)).
-ghost use Rattle.std.specs.Prelude.{◌≡◌, ◌<◌, ◌++◌, ◌∷◌, [], length, OnErr, OnOk};
+ghost use Rattle.std.specs.Prelude.{◌≡◌, ◌≤◌, ◌<◌, ◌^◌, ◌==◌, ◌++◌, ◌∷◌, [], length, OnErr, OnOk};
+ghost use Rattle.std.specs.List.{list_any, remove};
+ghost use Rattle.lx_machine.specs.Signals.{has_signal, is_of, is_before, may_take, has_unblocked, without_signal};
 
 use crate::buffer::NoMemory;
 use crate::label::PendingList;
@@ -22,6 +24,17 @@ pub struct SigInfo {
     pub signal: LinuxSig,
     pub code: i32,
     pub origin: Origin,
+}
+
+/// What stands in a place of a list that holds no signal.
+impl Default for SigInfo {
+    fn default() -> SigInfo {
+        SigInfo {
+            signal: LinuxSig::SIGHUP,
+            code: 0,
+            origin: Origin::Address(0),
+        }
+    }
 }
 
 /// What is done at a signal: the handler's address, or 0 for the default action or 1 for none, the flags SA_*, the
@@ -67,15 +80,72 @@ impl Model for Pending {
     ghost view = { λ p. p.infos.items };
 }
 
+/// Whether a set of signals, signal n as bit n - 1, has this one.
+pub fn has_signal(set: u64, signal: LinuxSig) -> bool
+    ensures { result ≡ has_signal set signal }
+{
+    (set >> (signal.number() - 1)) & 1 == 1
+}
+
+/// Whether it is this signal.
+fn is_of(signal: LinuxSig, info: SigInfo) -> bool
+    ensures { result ≡ is_of signal info }
+{
+    info.signal.number() == signal.number()
+}
+
+/// Whether it is an unblocked real-time signal of a lower number.
+fn is_before(mask: u64, signal: LinuxSig, info: SigInfo) -> bool
+    ensures { result ≡ is_before mask signal info }
+{
+    info.signal.is_real_time()
+        && info.signal.number() < signal.number()
+        && !has_signal(mask, info.signal)
+}
+
+/// The place of the first signal of this kind, and the length where there is none.
+fn place_of(signal: LinuxSig, infos: &[SigInfo]) -> usize
+    requires { length infos.now < 2 ^ 63 }
+    ensures most { result ≤ length infos.now }
+    ensures there { result < length infos.now → remove infos.now result ≡ without_signal signal infos.now }
+    ensures nowhere { result ≡ length infos.now → without_signal signal infos.now ≡ infos.now }
+{
+    match infos {
+        [] => 0,
+        [info, rest @ ..] => {
+            if is_of(signal, *info) {
+                0
+            } else {
+                1 + place_of(signal, rest)
+            }
+        }
+    }
+}
+
 impl Pending {
-    ghost use Rattle.std.specs.List.{list_any};
-    ghost use Rattle.lx_machine.specs.Signals.{is_of};
+    /// No signals. Takes no memory.
+    pub fn empty() -> Pending
+        ensures { result ≡ [] }
+    {
+        Pending {
+            infos: ArrayVec::new(),
+        }
+    }
 
     /// Whether the signal is pending.
     pub fn has(&self, signal: LinuxSig) -> bool
         ensures { result ≡ list_any (is_of signal) self.now }
     {
-        self.infos.iter().any(|info| info.signal.number() == signal.number())
+        self.infos
+            .iter()
+            .any(|info| info.signal.number() == signal.number())
+    }
+
+    /// Whether `MOST_PENDING` signals are there.
+    pub fn is_full(&self) -> bool
+        ensures { result ≡ (length self.now == MOST_PENDING) }
+    {
+        self.infos.is_full()
     }
 
     /// Puts a signal behind the others. `NoMemory`: `MOST_PENDING` of them are there; then nothing changes.
@@ -89,5 +159,38 @@ impl Pending {
         }
         self.infos.push(info);
         Ok(())
+    }
+
+    /// Whether some pending signal is not blocked.
+    pub fn has_unblocked(&self, mask: u64) -> bool
+        ensures { result ≡ has_unblocked mask self.now }
+    {
+        self.infos.iter().any(|info| !has_signal(mask, info.signal))
+    }
+
+    /// Whether some unblocked real-time signal of a lower number is pending.
+    fn has_before(&self, mask: u64, signal: LinuxSig) -> bool
+        ensures { result ≡ list_any (is_before mask signal) self.now }
+    {
+        self.infos.iter().any(|info| is_before(mask, signal, *info))
+    }
+
+    /// Whether a thread with this mask may take the signal from this list (signal(7)).
+    pub fn may_take(&self, mask: u64, signal: LinuxSig) -> bool
+        ensures { result ≡ may_take mask self.now signal }
+    {
+        self.has(signal)
+            && !has_signal(mask, signal)
+            && !(signal.is_real_time() && self.has_before(mask, signal))
+    }
+
+    /// The first signal of this kind is pending no more.
+    pub fn remove(&mut self, signal: LinuxSig)
+        ensures { self.new ≡ without_signal signal self.old }
+    {
+        let at = place_of(signal, &self.infos);
+        if at < self.infos.len() {
+            self.infos.remove(at);
+        }
     }
 }

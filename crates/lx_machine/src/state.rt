@@ -1,21 +1,15 @@
 //! The state of the Linux machine, all of it.
+ghost use Rattle.std.specs.Prelude.{◌≡◌, []};
+
 use crate::files::Files;
 use crate::signals::{Action, Pending};
+use crate::space::Space;
 use crate::threads::{GuestEnd, LxThread, LxWaiter};
 use arrayvec::ArrayVec;
-use lx_memory::Memory;
 use std::marker::Model;
 
 /// How many places there are for threads.
 pub const THREADS: usize = 32;
-
-/// Memory: the mapped pages, the break, and where it began (brk(2)).
-#[derive(Drop)]
-pub struct Space {
-    pub pages: Memory,
-    pub break_at: u64,
-    pub break_start: u64,
-}
 
 /// The one futex queue in order of queueing, which contracts see as a list (futex(2)).
 #[derive(Drop)]
@@ -30,6 +24,17 @@ impl Model for Queue {
     ghost Value = { List LxWaiter };
 
     ghost view = { λ q. q.waiters.items };
+}
+
+impl Queue {
+    /// No waiters. Takes no memory.
+    pub fn empty() -> Queue
+        ensures { result ≡ [] }
+    {
+        Queue {
+            waiters: ArrayVec::new(),
+        }
+    }
 }
 
 /// The state: places for threads, memory, the one futex queue, files, the actions of signals 1 to 64, the pending signals

@@ -50,7 +50,7 @@ pub struct LxThread {
 }
 
 /// A thread in the futex queue: its tid, the address of the word, and its bit set.
-#[derive(Clone, Copy)]
+#[derive(Clone, Copy, Default)]
 pub struct LxWaiter {
     pub tid: u32,
     pub address: u64,

@@ -1,14 +1,15 @@
-// The Linux machine, as the player uses it. All that the player asks of `lx_run` stands here.
+// The Linux machine, as the player uses it.
 ghost use Rattle.std.specs.Prelude.{◌<◌, All};
 ghost use Rattle.elf_image.specs.Layout.{IsPlaced};
 
 use elf_image::Image;
 use linux_abi::LinuxSig;
+use lx_calls::shape::stage_of;
 use lx_machine::buffer::NoMemory;
 use lx_machine::calls::Stage;
 use lx_machine::label::{Label, LxSide};
 use lx_machine::refusal::LxRefusal;
-use lx_machine::threads::GuestEnd;
+use lx_machine::threads::{GuestEnd, LxThread};
 use lx_run::state::LxState;
 use std::alloc::Global;
 
@@ -24,7 +25,7 @@ impl Machine {
         alloc: Global,
         image: &Image,
         words: &[String],
-        input: &[u8],
+        input: Vec<u8>,
     ) -> Result<Machine, NoMemory>
         requires { All IsPlaced image.now.segments }
     {
@@ -43,32 +44,59 @@ impl Machine {
 
     /// How the guest has ended, once it has.
     pub fn end(&self) -> Option<GuestEnd> {
-        self.state.end()
+        self.state.state().end
+    }
+
+    // The thread in this slot.
+    fn thread(&self, slot: u8) -> Option<&LxThread>
+        requires { slot < 32 }
+    {
+        self.state.state().threads[slot as usize].as_ref()
     }
 
     /// What the call of the thread in this slot does next, where there is a thread in a call.
     pub fn stage(&self, slot: u8) -> Option<Stage>
         requires { slot < 32 }
     {
-        self.state.next_stage(slot)
+        let call = self.thread(slot)?.call.as_ref()?;
+        Some(stage_of(call))
     }
 
     /// The signal of the trap of the thread in this slot, where there is one that has trapped.
     pub fn trap(&self, slot: u8) -> Option<LinuxSig>
         requires { slot < 32 }
     {
-        self.state.trap(slot)
+        let trap = self.thread(slot)?.trap?;
+        Some(trap.signal)
     }
 
     /// How many bytes a console room holds.
     pub fn held(&self, side: LxSide) -> usize {
-        self.state.room(side)
+        let files = &self.state.state().files;
+        match side {
+            LxSide::Out => files.out.held(),
+            LxSide::Err => files.err.held(),
+        }
+    }
+
+    // The bytes that a console room holds, which are the last ones that were ever put into it.
+    fn room(&self, side: LxSide) -> &[u8] {
+        let files = &self.state.state().files;
+        let put = match side {
+            LxSide::Out => files.put_out.as_slice(),
+            LxSide::Err => files.put_err.as_slice(),
+        };
+        let first = put.len().saturating_sub(self.held(side));
+        &put[first..]
     }
 
     /// Takes all bytes out of a console room.
     pub fn drain(&mut self, alloc: Global, side: LxSide) -> Result<Vec<u8>, NoMemory> {
-        let mut bytes = Vec::new(alloc);
-        self.state.drain_into(side, &mut bytes)?;
+        let Ok(bytes) = Vec::from_slice(alloc, self.room(side)) else {
+            return Err(NoMemory);
+        };
+        let n = bytes.len() as u64;
+        self.take(alloc, &Label::Drain(side, n))?;
         Ok(bytes)
     }
 }

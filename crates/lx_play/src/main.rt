@@ -110,7 +110,7 @@ fn run_guest<O: Sink, E: Sink>(
     let Ok(input) = read_input(rt) else {
         return Err(told(NO_INPUT, "lx_play: standard input can't be read\n"));
     };
-    match Machine::start(alloc, &image, words, &input) {
+    match Machine::start(alloc, &image, words, input) {
         Ok(mut machine) => Ok(play(&mut machine, alloc, out, err)),
         Err(_) => Ok(RunEnd::NoMemory),
     }

@@ -2,7 +2,7 @@
 use Rattle.std.proofs.Common.{◌≡◌, ℕ, List, Option, Some, None, Bool, true, false}
 use Rattle.std.specs.Prelude.{if◌then◌else◌, Ok}
 use Rattle.page_store.specs.Pages.{Pages}
-use Rattle.a64_model.specs.Exec.{next, followed_by, faulted, IsAnswer}
+use Rattle.a64_model.specs.Exec.{next, followed_by, IsAnswer}
 use Rattle.a64_model.specs.declared.regs.Regs.{Regs}
 use Rattle.a64_model.specs.declared.instr.Instr.{Instr}
 use Rattle.a64_model.specs.declared.instr.Instr.TheVariants as instr

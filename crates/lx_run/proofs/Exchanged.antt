@@ -4,7 +4,6 @@ use Rattle.page_store.specs.Pages.{Pages}
 use Rattle.places.specs.Places.{bytes_of, number_of}
 use Rattle.guest_mem.specs.Swaps.{outcome, has_outcome}
 use Rattle.a64_model.specs.declared.access.SwapOp.{SwapOp}
-use Rattle.a64_model.specs.declared.access.Answer.{Answer}
 use Rattle.a64_model.specs.declared.access.Answer.TheVariants.{Bytes}
 use Rattle.lx_memory.specs.Bytes.{bytes_at}
 use Rattle.lx_machine.specs.Instructions.{swap, writes, filled}

@@ -1,5 +1,5 @@
 -- Bytes over the first ones of 32 zeros.
-use Rattle.std.proofs.Common.{◌≡◌, ℕ, zero, suc, ◌+◌, ◌-◌, ◌≤◌, List, [], ◌∷◌, ◌++◌, length, take, drop, replicate, arith, refl, ap, subst}
+use Rattle.std.proofs.Common.{◌≡◌, ℕ, zero, suc, ◌-◌, ◌++◌, length, take, drop, replicate, arith, refl, ap, subst}
 use Rattle.std.proofs.Math.Seq.{take-append_seam}
 use Rattle.page_store.specs.Pages.{Pages}
 use Rattle.lx_memory.specs.Bytes.{bytes_at}

@@ -1,11 +1,11 @@
 -- The accesses of instructions are small.
-use Rattle.std.proofs.Common.{◌≡◌, ℕ, ◌*◌, ◌≤◌, Bool, true, false, Result, arith, refl}
+use Rattle.std.proofs.Common.{ℕ, ◌*◌, ◌≤◌, Bool, true, false, Result, arith}
 use Rattle.std.specs.Prelude.{if◌then◌else◌, Ok, Err, ◌&&◌, ◌==◌, ◌%◌}
 use Rattle.std.proofs.Math.Bool.{not}
 use Rattle.a64_model.specs.Exec.{needed}
-use Rattle.a64_model.specs.Memory.{size_bytes, pair_size, literal_size, bytes_of, low_part, pair_bytes}
-use Rattle.a64_model.specs.Registers.{x_zr, x_sp}
-use Rattle.a64_model.specs.ExecLoadsStores.{with_base, with_aligned_base, transferred, misaligned, unsigned_address, indexed_address, moved_base, register_address, literal_address, literal_access, pair_access, moved_pair_base, swap_op, need_literal, need_pair, need_load, need_store, need_compare_swap, need_atomic}
+use Rattle.a64_model.specs.Memory.{size_bytes, pair_size}
+use Rattle.a64_model.specs.Registers.{x_sp}
+use Rattle.a64_model.specs.ExecLoadsStores.{with_base, with_aligned_base, transferred, misaligned, literal_address, literal_access, pair_access}
 use Rattle.a64_model.specs.declared.regs.Regs.{Regs}
 use Rattle.a64_model.specs.declared.instr.Instr.{Instr}
 use Rattle.a64_model.specs.declared.instr.Instr.TheVariants as instr
@@ -20,7 +20,6 @@ use Rattle.a64_model.specs.declared.operands.LiteralKind.TheVariants as literal
 use Rattle.a64_model.specs.declared.operands.PairKind.{PairKind}
 use Rattle.a64_model.specs.declared.operands.PairKind.TheVariants as pair
 use Rattle.a64_model.specs.declared.access.Access.{Access}
-use Rattle.a64_model.specs.declared.access.Access.TheVariants as access
 use Rattle.a64_model.specs.declared.access.Next.{Next}
 use Rattle.lx_run.specs.Accesses.{IsSmall, AsksLittle}
 
@@ -54,7 +53,7 @@ based regs rn a small = either _ (Err (misaligned regs.sp)) (Ok a) tt small
 aligned : (regs : Regs) (rn : Reg) (s : Size) (a : Access) → IsSmall a → AsksLittle (with_aligned_base regs rn s a)
 aligned regs rn s a small =
     either ((rn.number == 31) && not (regs.sp % 16 == 0)) (Err (misaligned regs.sp)) (if x_sp regs rn % size_bytes s == 0 then Ok a else Err (misaligned (x_sp regs rn))) tt (
-      either (x_sp regs rn % size_bytes s == 0) (Ok a) (Err (misaligned (x_sp regs rn))) small tt
+    either (x_sp regs rn % size_bytes s == 0) (Ok a) (Err (misaligned (x_sp regs rn))) small tt
     )
 
 moved : (regs : Regs) (s : Size) (t : Transfer) (rn rt : Reg) (at : ℕ) → AsksLittle (transferred regs s t rn rt at)

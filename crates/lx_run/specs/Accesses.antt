@@ -1,5 +1,5 @@
 -- What the code tells of an access, and how large accesses are.
-use Rattle.std.specs.Prelude.{◌≡◌, ℕ, Bool, true, false, ◌≤◌, ◌<◌, ◌^◌, Result, Ok, Err, ⊤}
+use Rattle.std.specs.Prelude.{◌≡◌, Bool, true, false, ◌≤◌, Result, Ok, Err, ⊤}
 use Rattle.page_store.specs.Pages.{Pages}
 use Rattle.a64_model.specs.declared.access.Access.{Access}
 use Rattle.a64_model.specs.declared.access.Access.TheVariants as access

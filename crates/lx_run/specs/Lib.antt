@@ -1,4 +1,13 @@
 pub mod Accesses
+pub mod MemorySteps
+pub mod Places
+pub mod FileSteps
+pub mod FirstStack
+pub mod Labels
+pub mod Parts
+pub mod ProcessSteps
+pub mod SignalPlaces
+pub mod SignalSteps
 pub mod Stack
 pub mod Start
 pub mod Steps

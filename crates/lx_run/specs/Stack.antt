@@ -1,6 +1,6 @@
 -- The first stack: what a program finds at sp. Source: the arm64 ABI as Linux has it (getauxval(3), execve(2)); which bytes
 -- lie where above the table, and the numbers of ids, are this project's own.
-use Rattle.std.specs.Prelude.{ℕ, suc, ◌+◌, ◌-◌, ◌*◌, ◌/◌, ◌%◌, ◌^◌, List, [], ◌∷◌, ◌++◌, length, replicate, bit_xor}
+use Rattle.std.specs.Prelude.{ℕ, suc, ◌+◌, ◌-◌, ◌*◌, ◌/◌, List, [], ◌∷◌, ◌++◌, length, replicate, bit_xor}
 use Rattle.places.specs.Places.{bytes_of}
 
 -- where the stack ends; the page of the return code stands there
@@ -61,3 +61,13 @@ words (n ∷ ns) = bytes_of n 8 ++ words ns
 -- sp: the greatest multiple of 16 that leaves room for the table
 abbrev pub table_at : Headers → List ℕ → List (List ℕ) → ℕ
 table_at h name arguments = (random_at name arguments - 8 * length (table h name arguments)) / 16 * 16
+
+-- ---- the words with which a program is started: the image name, and the arguments behind it. Without any the name is empty.
+
+abbrev pub name_of : List (List ℕ) → List ℕ
+name_of [] = []
+name_of (name ∷ arguments) = name
+
+abbrev pub arguments_of : List (List ℕ) → List (List ℕ)
+arguments_of [] = []
+arguments_of (name ∷ arguments) = arguments

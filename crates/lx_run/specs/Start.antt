@@ -1,6 +1,6 @@
 -- Start(image, args, input, seed): the state in which a program starts. Source: execve(2), ELF-64; the stack's size, the
 -- return code above it, and that the code is readable are this project's own.
-use Rattle.std.specs.Prelude.{ℕ, suc, ◌+◌, ◌-◌, ◌*◌, ◌/◌, ◌%◌, ◌^◌, Bool, true, false, ◌||◌, max, List, [], ◌∷◌, ◌++◌, length, replicate, Option, Some, None}
+use Rattle.std.specs.Prelude.{ℕ, ◌+◌, ◌-◌, ◌*◌, ◌/◌, true, false, ◌||◌, max, List, [], ◌∷◌, ◌++◌, replicate, Option, Some, None}
 use Rattle.std.specs.FinMap as map
 use Rattle.vm_areas.specs.declared.runs.Rights.{Rights}
 use Rattle.page_store.specs.Pages.{Pages}
@@ -16,7 +16,7 @@ use Rattle.lx_machine.specs.declared.files.FileKind.TheVariants as kind
 use Rattle.lx_machine.specs.declared.files.Files.{Files}
 use Rattle.lx_machine.specs.declared.label.LxSide.TheVariants as side
 use Rattle.lx_machine.specs.declared.state.LinuxState.{LinuxState}
-use Rattle.lx_machine.specs.declared.state.Space.{Space}
+use Rattle.lx_machine.specs.declared.space.Space.{Space}
 use Rattle.lx_machine.specs.declared.threads.LxThread.{LxThread}
 use Rattle.lx_machine.specs.declared.threads.Life.TheVariants.{Live}
 use Rattle.lx_machine.specs.Step.{default_action}

@@ -1,8 +1,8 @@
 -- What a step of the runnable machine answers.
 use Rattle.std.specs.Prelude.{◌≡◌, Option, Some, None, Result, Ok, Err}
 use Rattle.lx_machine.specs.declared.state.LinuxState.{LinuxState}
-use Rattle.lx_run.specs.declared.refusal.LxRefusal.{LxRefusal}
-use Rattle.lx_run.specs.declared.refusal.LxRefusal.TheVariants.{NoStep, NoMemory}
+use Rattle.lx_machine.specs.declared.refusal.LxRefusal.{LxRefusal}
+use Rattle.lx_machine.specs.declared.refusal.LxRefusal.TheVariants.{NoStep, NoMemory}
 
 -- Ok exactly where there is a next state, which it then is; no step exactly where there is none, and then the state is as
 -- it was. Want of memory alone is free, and leaves the state as it was

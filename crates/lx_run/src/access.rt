@@ -9,9 +9,9 @@ ghost use Rattle.places.specs.Places.{bytes_of, number_of};
 ghost use Rattle.lx_run.specs.Accesses.{Has, IsSmall};
 
 use a64_model::access::{Access, Answer, Fault, SwapOp};
+use byteorder::{ByteOrder, LittleEndian};
 use guest_mem::swaps::{has_outcome_of, outcome_of};
 use lx_machine::memory::first_lacking;
-use byteorder::{ByteOrder, LittleEndian};
 use lx_memory::{Memory, Right};
 
 /// What memory has answered, the thread's mark then, and how many bytes it has written from which address on.
@@ -68,13 +68,7 @@ fn load(memory: &Memory, mark: Option<u64>, at: u64, len: u8, marks: bool) -> An
 }
 
 /// Writes bytes into mapped pages, and answers so.
-fn writes(
-    memory: &mut Memory,
-    mark: Option<u64>,
-    at: u64,
-    bytes: &[u8],
-    answer: Answer,
-) -> Answered
+fn writes(memory: &mut Memory, mark: Option<u64>, at: u64, bytes: &[u8], answer: Answer) -> Answered
     requires { IsMapped memory.old at (length bytes.now) }
     ensures { Has memory.new result (spec.writes memory.old mark at bytes.now answer) }
 {
@@ -158,13 +152,7 @@ fn exchange(
         return answers(mark, Answer::Bytes(bytes));
     }
     let new = outcome_bytes(op, old, value);
-    writes(
-        memory,
-        mark,
-        at,
-        &new[..len as usize],
-        Answer::Bytes(bytes),
-    )
+    writes(memory, mark, at, &new[..len as usize], Answer::Bytes(bytes))
 }
 
 /// An atomic access to a number of 1 to 8 bytes: it answers the old number.

@@ -165,11 +165,7 @@ fn execute(
 /// The instruction at pc: what it writes, and what becomes of its thread. A pc that is no multiple of 4 is SIGBUS, one
 /// without the right to execute SIGSEGV, and a word without a row SIGILL, each as a trap of the thread. Where memory is
 /// wanting, nothing changes.
-pub fn run(
-    alloc: Global,
-    memory: &mut Memory,
-    thread: &mut LxThread,
-) -> Result<Written, NoMemory>
+pub fn run(alloc: Global, memory: &mut Memory, thread: &mut LxThread) -> Result<Written, NoMemory>
     ensures ok { IfOk result (λ written. HasRun memory.new thread.new written (spec.ran entered memory.old thread.old)) }
     ensures err { OnErr result ((memory.new ≡ memory.old) × (thread.new ≡ thread.old)) }
 {

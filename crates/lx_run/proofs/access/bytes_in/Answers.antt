@@ -1,4 +1,4 @@
-use Rattle.std.proofs.Common.{◌≡◌, ℕ, ◌++◌, drop, take, replicate, ◌∙◌, ap}
+use Rattle.std.proofs.Common.{ℕ, take, replicate, ◌∙◌, ap}
 use Rattle.std.proofs.lemmas.List.{length-take-le}
 use Rattle.lx_run.proofs.Filled.{filled_bytes, taken_bytes}
 use Rattle.lx_run.proofs.access.bytes_in.Goals as goal

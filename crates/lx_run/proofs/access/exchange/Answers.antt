@@ -1,4 +1,4 @@
-use Rattle.std.proofs.Common.{◌≡◌, ℕ, take, ap, sym, ◌∙◌}
+use Rattle.std.proofs.Common.{take, ap, sym, ◌∙◌}
 use Rattle.places.specs.Places.{number_of}
 use Rattle.places.proofs.Numbers.{take-bytes_of}
 use Rattle.guest_mem.specs.Swaps.{outcome}

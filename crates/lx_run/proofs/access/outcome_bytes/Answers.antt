@@ -1,4 +1,4 @@
-use Rattle.std.proofs.Common.{◌≡◌, ℕ, ap, ◌∙◌, arith}
+use Rattle.std.proofs.Common.{ℕ, ap, ◌∙◌, arith}
 use Rattle.places.specs.Places.{bytes_of}
 use Rattle.places.proofs.Numbers.{bytes_of-mod}
 use Rattle.guest_mem.specs.Swaps.{outcome}
