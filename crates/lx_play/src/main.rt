@@ -10,6 +10,8 @@ ghost use Rattle.elf_image.specs.Layout.{IsLaidOut};
 
 mod machine;
 mod play;
+#[cfg(test)]
+mod tests;
 mod turns;
 
 use crate::machine::Machine;
