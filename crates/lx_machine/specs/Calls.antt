@@ -28,6 +28,8 @@ new_call number arguments = record {
   held = None;
   deadline = None;
   waits = false;
+  child = None;
+  death = None;
   result = None;
   kept = None;
 }

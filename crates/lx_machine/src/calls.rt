@@ -3,6 +3,8 @@ ghost use Rattle.std.specs.Prelude.{◌≡◌, ◌<◌, [], ◌++◌, ◌∷◌,
 ghost use Rattle.lx_machine.specs.Pieces.{without_first};
 
 use crate::buffer::{Bytes, NoMemory};
+use crate::death::Death;
+use crate::futexes::{Mark, Requeue, Wait, Wake, WakeOp};
 use crate::signals::Kept;
 use linux_abi::{LinuxErrno, answer};
 use std::alloc::Global;
@@ -74,8 +76,8 @@ impl Pieces {
 
 /// A call that has been entered: its number and arguments, how many pieces it has fetched, the pieces that it has still
 /// to copy, the bytes that it has fetched or has still to store, how many bytes it has moved, its held open file, its
-/// deadline in microseconds, whether it waits, its result once it has one, in the form of x0, and the signal that ended
-/// its wait.
+/// deadline in microseconds, whether it waits at a futex, the slot of the child that it has reserved and not started, how
+/// far the death of its thread has come, its result once it has one, in the form of x0, and the signal that ended its wait.
 #[derive(Drop)]
 pub struct LxCall {
     pub number: u64,
@@ -87,6 +89,8 @@ pub struct LxCall {
     pub held: Option<u32>,
     pub deadline: Option<u64>,
     pub waits: bool,
+    pub child: Option<u8>,
+    pub death: Option<Death>,
     pub result: Option<u64>,
     pub kept: Option<Kept>,
 }
@@ -108,6 +112,8 @@ impl LxCall {
             held: None,
             deadline: None,
             waits: false,
+            child: None,
+            death: None,
             result: None,
             kept: None,
         }
@@ -148,7 +154,7 @@ impl LxCall {
 }
 
 /// What a call does next.
-#[derive(Clone, Copy, Debug, PartialEq, Eq)]
+#[derive(Clone, Copy)]
 pub enum Stage {
     /// Copies the piece in.
     Fetch(Piece),
@@ -158,14 +164,34 @@ pub enum Stage {
     Drop,
     /// Has its effect.
     Effect,
-    /// Moves bytes between itself and its open file.
+    /// Moves bytes or events between itself and its open file.
     Move,
+    /// Reads the clock, or sets its deadline.
+    Clock,
+    /// Compares the word and queues.
+    Queue(Wait),
+    /// Moves waiters from one word to another.
+    Requeue(Requeue),
+    /// Changes a word, and releases waiters at two words.
+    WakeOp(WakeOp),
+    /// Releases waiters.
+    Release(Wake),
+    /// Is in the futex queue, or was released.
+    Wait,
+    /// Waits for its deadline or a signal.
+    Rest,
+    /// Lets its child start.
+    Start,
+    /// Marks the word of a robust futex.
+    Mark(Mark),
     /// Copies the piece out.
     Store(Piece),
-    /// Ends its thread.
+    /// Begins the death of its thread.
     Leave,
+    /// Ends the death of its thread.
+    Gone,
+    /// Ends the guest by SIGSEGV.
+    Kill,
     /// Puts its result into x0.
     Return,
-    /// Nothing: how this call goes on is not built.
-    NotBuilt,
 }

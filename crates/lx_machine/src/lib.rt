@@ -6,9 +6,12 @@
 
 pub mod buffer;
 pub mod calls;
+pub mod death;
 pub mod files;
+pub mod futexes;
 pub mod label;
 pub mod memory;
+pub mod queue;
 pub mod refusal;
 pub mod signals;
 pub mod space;
