@@ -1,6 +1,6 @@
 -- How SVC enters a call: the refusals that need no look at the machine, in their order. Source: the manual page of each
 -- call; which flags there are is that of Linux for arm64.
-use Rattle.std.specs.Prelude.{ℕ, ◌+◌, ◌*◌, ◌/◌, ◌%◌, ◌^◌, ◌==◌, Bool, ◌&&◌, ◌||◌, nat_lt, bit_and, if◌then◌else◌, List, [], ◌∷◌, Option, Some, None, is_some}
+use Rattle.std.specs.Prelude.{ℕ, ◌+◌, ◌*◌, ◌/◌, ◌%◌, ◌^◌, ◌==◌, Bool, ◌&&◌, ◌||◌, nat_lt, if◌then◌else◌, List, [], ◌∷◌, Option, Some, None, is_some}
 use Rattle.std.proofs.Math.Bool.{not}
 use Rattle.linux_abi.specs.Call.{call_of}
 use Rattle.linux_abi.specs.Advice.{advice_of}
@@ -9,19 +9,10 @@ use Rattle.linux_abi.specs.declared.calls.Call.TheVariants as call
 use Rattle.linux_abi.specs.declared.errno.LinuxErrno.{LinuxErrno}
 use Rattle.linux_abi.specs.declared.errno.LinuxErrno.TheVariants as errno
 use Rattle.lx_machine.specs.Pieces.{piece, clipped}
-use Rattle.lx_machine.specs.Calls.{argument, low_argument, refused}
+use Rattle.lx_machine.specs.Calls.{argument, low_argument, refused, first_refusal, has_other}
 use Rattle.lx_machine.specs.declared.calls.LxCall.{LxCall}
 use Rattle.lx_machine.specs.declared.calls.Piece.{Piece}
 use Rattle.lx_calls.specs.Vectors.{most_vectors}
-
--- the first test that holds refuses the call
-abbrev pub first_refusal : List (Bool × LinuxErrno) → Option LinuxErrno
-first_refusal [] = None
-first_refusal (test ∷ tests) = if test.0 then Some test.1 else first_refusal tests
-
--- the flags have a bit that is not allowed
-abbrev pub has_other : ℕ → ℕ → Bool
-has_other allowed flags = not (bit_and flags allowed == flags)
 
 -- the address is no multiple of a page
 abbrev pub is_unaligned : ℕ → Bool

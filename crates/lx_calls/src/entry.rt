@@ -1,14 +1,15 @@
 //! How SVC enters a call: the refusals that need no look at the machine, in their order. The manual page of each call says
 //! which there are.
-ghost use Rattle.std.specs.Prelude.{◌≡◌, if◌then◌else◌, Some, None, IfOk, OnErr, OnOk};
-ghost use Rattle.lx_calls.specs.Entry.{first_refusal, has_other, is_unaligned, pages_of, ends_above, is_fixed, wants_execute, vector_refusals, mmap_refusals, munmap_refusals, mprotect_refusals, madvise_refusals, eventfd_refusals, pipe_refusals, dup3_refusals, refusals, first_pieces, entered_as, entered};
+ghost use Rattle.std.specs.Prelude.{◌≡◌, Some, IfOk, OnErr, OnOk};
+ghost use Rattle.lx_machine.specs.Calls.{first_refusal};
+ghost use Rattle.lx_calls.specs.Entry.{is_unaligned, pages_of, ends_above, is_fixed, wants_execute, vector_refusals, mmap_refusals, munmap_refusals, mprotect_refusals, madvise_refusals, eventfd_refusals, pipe_refusals, dup3_refusals, refusals, first_pieces, entered_as, entered};
 
 use crate::vectors::clip;
 use linux_abi::files::IOV_MAX;
 use linux_abi::memory::{Advice, MAP_ANONYMOUS, MAP_FIXED, MAP_PRIVATE, MAP_SHARED, PROT_EXEC};
 use linux_abi::{Call, LinuxErrno};
 use lx_machine::buffer::{NoMemory, ROOM};
-use lx_machine::calls::{LxCall, Piece, Pieces};
+use lx_machine::calls::{LxCall, Piece, Pieces, has_other, refused_if};
 use std::alloc::Global;
 
 /// The first address that no program has.
@@ -31,13 +32,6 @@ const DUP3_FLAGS: u32 = 0x80000;
 
 /// PROT_READ, PROT_WRITE and PROT_EXEC (mmap(2)).
 const ALL_RIGHTS: u32 = 7;
-
-/// The flags have a bit that is not allowed.
-fn has_other(allowed: u32, flags: u32) -> bool
-    ensures { result ≡ has_other allowed flags }
-{
-    flags & allowed != flags
-}
 
 /// The address is no multiple of a page.
 fn is_unaligned(at: u64) -> bool
@@ -72,13 +66,6 @@ fn wants_execute(rights: u32) -> bool
     ensures { result ≡ wants_execute rights }
 {
     u64::from(rights) / PROT_EXEC % 2 == 1
-}
-
-/// The error, if the test holds.
-fn refused_if(test: bool, e: LinuxErrno) -> Option<LinuxErrno>
-    ensures { result ≡ (if test then Some e else None) }
-{
-    if test { Some(e) } else { None }
 }
 
 /// readv(2), writev(2).

@@ -1,5 +1,6 @@
 -- Calls that have been entered: how they stand, and what follows of a result. Source: syscall(2), intro(2), errno(3).
-use Rattle.std.specs.Prelude.{ℕ, ◌%◌, ◌^◌, false, min, List, [], ◌∷◌, length, Option, Some, None, slice_index}
+use Rattle.std.specs.Prelude.{ℕ, ◌%◌, ◌^◌, ◌==◌, Bool, false, bit_and, min, if◌then◌else◌, List, [], ◌∷◌, length, Option, Some, None, slice_index}
+use Rattle.std.proofs.Math.Bool.{not}
 use Rattle.linux_abi.specs.LinuxErrno.{answer_of}
 use Rattle.linux_abi.specs.declared.errno.LinuxErrno.{LinuxErrno}
 use Rattle.lx_machine.specs.Pieces.{piece}
@@ -45,6 +46,15 @@ answered_with c n pieces bytes = record c { result = Some n; pieces = pieces; by
 -- the call is refused
 abbrev pub refused : LxCall → LinuxErrno → LxCall
 refused c e = answered c (answer_of e)
+
+-- the first test that holds refuses the call
+abbrev pub first_refusal : List (Bool × LinuxErrno) → Option LinuxErrno
+first_refusal [] = None
+first_refusal (test ∷ tests) = if test.0 then Some test.1 else first_refusal tests
+
+-- the flags have a bit that is not allowed
+abbrev pub has_other : ℕ → ℕ → Bool
+has_other allowed flags = not (bit_and flags allowed == flags)
 
 -- what a call with a result does next: it gives its hold back, stores its bytes piece by piece, and returns
 abbrev pub storing : List Piece → List ℕ → Stage

@@ -1,5 +1,6 @@
 //! Calls that have been entered.
-ghost use Rattle.std.specs.Prelude.{◌≡◌, ◌<◌, [], ◌++◌, ◌∷◌, OnOk, OnErr};
+ghost use Rattle.std.specs.Prelude.{◌≡◌, ◌<◌, [], ◌++◌, ◌∷◌, Some, None, if◌then◌else◌, OnOk, OnErr};
+ghost use Rattle.lx_machine.specs.Calls.{has_other};
 ghost use Rattle.lx_machine.specs.Pieces.{without_first};
 
 use crate::buffer::{Bytes, NoMemory};
@@ -151,6 +152,20 @@ impl LxCall {
     {
         self.answer(answer(e));
     }
+}
+
+/// Whether the flags have a bit that is not allowed.
+pub fn has_other(allowed: u32, flags: u32) -> bool
+    ensures { result ≡ has_other allowed flags }
+{
+    flags & allowed != flags
+}
+
+/// The error, if the test holds.
+pub fn refused_if(test: bool, e: LinuxErrno) -> Option<LinuxErrno>
+    ensures { result ≡ (if test then Some e else None) }
+{
+    if test { Some(e) } else { None }
 }
 
 /// What a call does next.
