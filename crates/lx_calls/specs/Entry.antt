@@ -105,6 +105,6 @@ abbrev pub entered_as : LxCall → Option Call → LxCall
 entered_as c (Some k) = entered_unless c k (first_refusal (refusals c k))
 entered_as c None = refused c errno.ENOSYS
 
--- a call as SVC enters it
-abbrev pub entered : LxCall → LxCall
-entered c = entered_as c (call_of c.number)
+-- a call as SVC enters it, where sp is this
+abbrev pub entered : ℕ → LxCall → LxCall
+entered sp c = entered_as c (call_of c.number)

@@ -1,7 +1,6 @@
 -- exit, exit_group, the ids, set_tid_address, sched_yield and uname. Source: _exit(2), exit_group(2), getpid(2), getuid(2),
 -- gettid(2), set_tid_address(2), sched_yield(2), uname(2). Which numbers and names these are is this project's own.
 use Rattle.std.specs.Prelude.{ℕ, ◌-◌, ◌%◌, Bool, true, false, if◌then◌else◌, List, [], ◌∷◌, ◌++◌, length, codes, replicate, Option, Some, None}
-use Rattle.lx_machine.specs.Lists.{without_place}
 use Rattle.lx_machine.specs.Pieces.{piece}
 use Rattle.lx_machine.specs.Calls.{argument, low_argument, answered, answered_with}
 use Rattle.lx_machine.specs.declared.state.LinuxState.{LinuxState}
@@ -31,8 +30,11 @@ abbrev pub set_tid_address : LinuxState → ℕ → LxThread → LxCall → Linu
 set_tid_address L s t c = in_call_of L s (record t { clear_at = argument c 0 }) (answered c t.tid)
 
 -- the guest ends with the low 8 bits of the code
-abbrev pub exit_group : LinuxState → LxCall → LinuxState
-exit_group L c = record L { end = Some (Exited (low_argument c 0 % 256)) }
+abbrev pub ended_by : LinuxState → LxCall → LinuxState
+ended_by L c = record L { end = Some (Exited (low_argument c 0 % 256)) }
+
+abbrev pub exit_group : LinuxState → ℕ → LxThread → LxCall → LinuxState
+exit_group L s t c = in_call_of (ended_by L c) s t c
 
 -- no thread stands in these places
 abbrev pub all_free : List (Option LxThread) → Bool
@@ -42,4 +44,4 @@ all_free (Some t ∷ ts) = false
 
 -- exit of the only thread ends the guest. Of several it is not built
 abbrev pub leave : LinuxState → ℕ → LxThread → LxCall → Option LinuxState
-leave L s t c = if all_free (without_place L.threads s) then Some (exit_group L c) else None
+leave L s t c = if all_free L.threads then Some (exit_group L s t c) else None

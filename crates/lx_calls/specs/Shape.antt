@@ -64,11 +64,11 @@ working_stage c call.Munmap = stage.Effect
 working_stage c call.Mmap = stage.Effect
 working_stage c call.Mprotect = stage.Effect
 working_stage c call.Madvise = stage.Effect
-working_stage c _ = stage.NotBuilt
+working_stage c _ = stage.Return
 
 abbrev pub known_stage : LxCall → Option Call → Stage
 known_stage c (Some k) = working_stage c k
-known_stage c None = stage.NotBuilt
+known_stage c None = stage.Return
 
 abbrev pub stage_with : LxCall → Option ℕ → Stage
 stage_with c (Some n) = answered_stage c c.held
@@ -92,3 +92,18 @@ fetched_by c _ = c
 
 abbrev pub fetched : LxCall → LxCall
 fetched c = fetched_by c (call_of c.number)
+
+-- a call whose piece can't be read
+abbrev pub not_fetched : LxCall → LxCall
+not_fetched c = refused c errno.EFAULT
+
+-- the signals that a call blocks for its time, once it has fetched them
+abbrev pub mask_of : LxCall → Option ℕ
+mask_of c = None
+
+-- a call after a piece was stored; and one whose piece can't be written
+abbrev pub written : LxCall → LxCall
+written c = c
+
+abbrev pub not_written : LxCall → LxCall
+not_written c = refused c errno.EFAULT

@@ -14,8 +14,7 @@ use Rattle.linux_abi.specs.declared.signals.LinuxSig.TheVariants as signal
 use Rattle.lx_machine.specs.Lists.{bind, at_place, with_place}
 use Rattle.lx_machine.specs.Pieces.{total}
 use Rattle.lx_machine.specs.Calls.{low_argument, answered, answered_with, refused}
-use Rattle.lx_machine.specs.Signals.{is_of}
-use Rattle.lx_machine.specs.Step.{action_of}
+use Rattle.lx_machine.specs.Signals.{is_of, action_of}
 use Rattle.lx_machine.specs.declared.state.LinuxState.{LinuxState}
 use Rattle.lx_machine.specs.declared.files.Files.{Files}
 use Rattle.lx_machine.specs.Threads.{in_call_of}
@@ -255,7 +254,7 @@ has_room_for_broken_pipe ignored pending = ignored || list_any (is_of signal.SIG
 -- the thread after a move: SIGPIPE is pending where a pipe broke
 abbrev pub after_move : LinuxState → LxThread → Bool → LxThread
 after_move L t is_broken =
-    if is_broken then record t { pending = with_broken_pipe ((action_of L signal.SIGPIPE).handler == 1) t.pending } else t
+    if is_broken then record t { pending = with_broken_pipe ((action_of L.actions signal.SIGPIPE).handler == 1) t.pending } else t
 
 -- the state after a step of a transfer
 abbrev pub on_transfer : LinuxState → ℕ → LxThread → Outcome → LinuxState

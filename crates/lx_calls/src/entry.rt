@@ -245,8 +245,8 @@ fn enter_as(alloc: Global, call: &mut LxCall, kind: Call) -> Result<(), NoMemory
 
 /// Enters a call as SVC finds it (syscall(2)): one without a number of its own, and one whose arguments are refused, has
 /// its answer at once. Where memory is wanting, nothing changes.
-pub fn enter(alloc: Global, call: &mut LxCall) -> Result<(), NoMemory>
-    ensures ok { OnOk result (call.new ≡ entered call.old) }
+pub fn enter(alloc: Global, sp: u64, call: &mut LxCall) -> Result<(), NoMemory>
+    ensures ok { OnOk result (call.new ≡ entered sp call.old) }
     ensures err { OnErr result (call.new ≡ call.old) }
 {
     match Call::new(call.number) {

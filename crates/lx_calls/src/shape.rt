@@ -90,7 +90,7 @@ fn working(call: &LxCall, kind: Call) -> Stage
         Call::Getpid | Call::Getppid | Call::Gettid => Stage::Effect,
         Call::Getuid | Call::Geteuid | Call::Getgid | Call::Getegid => Stage::Effect,
         Call::Brk | Call::Munmap | Call::Mmap | Call::Mprotect | Call::Madvise => Stage::Effect,
-        _ => Stage::NotBuilt,
+        _ => Stage::Return,
     }
 }
 
@@ -103,7 +103,7 @@ pub fn stage_of(call: &LxCall) -> Stage
     }
     match Call::new(call.number) {
         Some(kind) => working(call, kind),
-        None => Stage::NotBuilt,
+        None => Stage::Return,
     }
 }
 

@@ -117,14 +117,14 @@ with_mark t mark = record t { mark = mark }
 abbrev pub called : Regs → LxCall
 called regs = new_call (slice_index regs.x 8) (take 6 regs.x)
 
--- what comes after the instruction: `enter` is what a call is once it has been entered. SVC ends the mark
-abbrev pub followed : (LxCall → LxCall) → LxThread → Next → LxThread
+-- what comes after the instruction: `enter` is what a call is once it has been entered at this sp. SVC ends the mark
+abbrev pub followed : (ℕ → LxCall → LxCall) → LxThread → Next → LxThread
 followed enter t Go = t
-followed enter t Call = with_mark (with_call t (enter (called t.regs))) None
+followed enter t Call = with_mark (with_call t (enter t.regs.sp (called t.regs))) None
 followed enter t (Trap n code address) = trapped t (trap_signal n) code address
 
 -- the instruction, once memory has answered its access
-abbrev pub finished : (LxCall → LxCall) → LxThread → Instr → Answered → Ran
+abbrev pub finished : (ℕ → LxCall → LxCall) → LxThread → Instr → Answered → Ran
 finished enter t i a = record {
   pages = a.pages;
   thread = followed enter (with_regs (with_mark t a.mark) (after t.regs i a.answer)) (next t.regs i a.answer);
@@ -133,25 +133,25 @@ finished enter t i a = record {
 }
 
 -- the instruction with the access that it needs, or the trap where alignment refuses it
-abbrev pub with_access : (LxCall → LxCall) → Pages → LxThread → Instr → Result Access Next → Ran
+abbrev pub with_access : (ℕ → LxCall → LxCall) → Pages → LxThread → Instr → Result Access Next → Ran
 with_access enter pages t i (Ok a) = finished enter t i (accessed pages t.mark a)
 with_access enter pages t i (Err n) = leaves pages (followed enter t n)
 
 -- the instruction of a word: a word without a row is SIGILL, with code 1
-abbrev pub executed : (LxCall → LxCall) → Pages → LxThread → Option Instr → Ran
+abbrev pub executed : (ℕ → LxCall → LxCall) → Pages → LxThread → Option Instr → Ran
 executed enter pages t (Some i) = with_access enter pages t i (needed t.regs i)
 executed enter pages t None = leaves pages (trapped t signal.SIGILL (pos 1) t.regs.pc)
 
 -- the instruction at pc. A pc that is no multiple of 4 is SIGBUS, with code 1; one without the right to execute is SIGSEGV,
 -- whose code is judged when the signal is taken
-abbrev pub ran : (LxCall → LxCall) → Pages → LxThread → Ran
+abbrev pub ran : (ℕ → LxCall → LxCall) → Pages → LxThread → Ran
 ran enter pages t =
     if not (t.regs.pc % 4 == 0) then leaves pages (trapped t signal.SIGBUS (pos 1) t.regs.pc) else (
     if is_allowed Execute pages t.regs.pc 4 then executed enter pages t (row (number_of (bytes_at pages t.regs.pc 4)))
     else leaves pages (trapped t signal.SIGSEGV (pos 0) t.regs.pc))
 
 -- the thread in slot s executes it: what it writes ends the marks of others
-abbrev pub instruction : (LxCall → LxCall) → LinuxState → ℕ → LxThread → LinuxState
+abbrev pub instruction : (ℕ → LxCall → LxCall) → LinuxState → ℕ → LxThread → LinuxState
 instruction enter L s t =
     let r = ran enter L.space.pages t in
     record L { space = record L.space { pages = r.pages }; threads = after_write s r.at r.written (with_place L.threads s r.thread) }

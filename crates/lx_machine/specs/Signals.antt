@@ -1,10 +1,19 @@
 -- MayTake, and what a signal does by default (signal(7)).
-use Rattle.std.specs.Prelude.{ℕ, ◌/◌, ◌%◌, ◌^◌, ◌==◌, Bool, ◌&&◌, nat_lt, if◌then◌else◌, List, [], ◌∷◌}
+use Rattle.std.specs.Prelude.{ℕ, ◌-◌, ◌/◌, ◌%◌, ◌^◌, ◌==◌, Bool, ◌&&◌, nat_lt, if◌then◌else◌, List, [], ◌∷◌, slice_index_or}
 use Rattle.std.proofs.Math.Bool.{not}
 use Rattle.std.specs.List.{list_any}
 use Rattle.linux_abi.specs.LinuxSig.{signal_number, linux_bit, is_real_time}
 use Rattle.linux_abi.specs.declared.signals.LinuxSig.{LinuxSig}
+use Rattle.lx_machine.specs.declared.signals.Action.{Action}
 use Rattle.lx_machine.specs.declared.signals.SigInfo.{SigInfo}
+
+-- the default action
+abbrev pub default_action : Action
+default_action = record { handler = 0; flags = 0; restorer = 0; mask = 0 }
+
+-- the action of a signal, among those of 1 to 64
+abbrev pub action_of : List Action → LinuxSig → Action
+action_of actions sig = slice_index_or actions (signal_number sig - 1) default_action
 
 -- a set of signals has this one
 abbrev pub has_signal : ℕ → LinuxSig → Bool

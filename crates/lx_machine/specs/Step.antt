@@ -1,62 +1,106 @@
--- LStep: one step of the Linux machine, over a table of what the calls do; and LRun, a run of it. A label whose call is
--- not built has no step, and a guest that has ended has none.
-use Rattle.std.specs.Prelude.{ℕ, ◌+◌, ◌-◌, ◌==◌, Bool, ◌&&◌, ◌||◌, nat_le, if◌then◌else◌, List, [], ◌∷◌, ◌++◌, length, take, drop, Option, Some, None, is_some, slice_index_or, slice_set}
+-- LStep: one step of the Linux machine, over a table of what the calls do; and LRun, a run of it. A guest that has ended takes
+-- no step.
+use Rattle.std.specs.Prelude.{ℕ, ◌+◌, Bool, true, false, ◌&&◌, nat_le, nat_lt, if◌then◌else◌, List, [], ◌∷◌, ◌++◌, length, take, drop, Option, Some, None, is_some}
 use Rattle.std.proofs.Math.Bool.{not}
-use Rattle.linux_abi.specs.LinuxSig.{signal_number, is_dropped_by_default}
-use Rattle.linux_abi.specs.declared.errno.LinuxErrno.TheVariants as errno
 use Rattle.linux_abi.specs.declared.signals.LinuxSig.{LinuxSig}
 use Rattle.lx_machine.specs.Lists.{bind, at_place}
 use Rattle.lx_machine.specs.Pieces.{without_first}
-use Rattle.lx_machine.specs.Calls.{refused}
 use Rattle.lx_memory.specs.Bytes.{bytes_at}
 use Rattle.lx_memory.specs.declared.right.Right.TheVariants.{Read, Write}
 use Rattle.lx_machine.specs.Memory.{is_allowed}
 use Rattle.lx_machine.specs.declared.state.LinuxState.{LinuxState}
-use Rattle.lx_machine.specs.Threads.{with_thread, in_call_of}
+use Rattle.lx_machine.specs.Threads.{with_thread, without_thread, without_call, in_call_of}
 use Rattle.lx_machine.specs.Instructions.{instruction, stored}
-use Rattle.lx_machine.specs.Signals.{has_signal, may_take, has_unblocked, without_signal}
 use Rattle.lx_machine.specs.declared.calls.LxCall.{LxCall}
 use Rattle.lx_machine.specs.declared.calls.Piece.{Piece}
 use Rattle.lx_machine.specs.declared.calls.Stage.{Stage}
 use Rattle.lx_machine.specs.declared.calls.Stage.TheVariants as stage
+use Rattle.lx_machine.specs.declared.futexes.Wait.{Wait}
+use Rattle.lx_machine.specs.declared.futexes.Wake.{Wake}
+use Rattle.lx_machine.specs.declared.futexes.Requeue.{Requeue}
+use Rattle.lx_machine.specs.declared.futexes.WakeOp.{WakeOp}
+use Rattle.lx_machine.specs.declared.futexes.Mark.{Mark}
 use Rattle.lx_machine.specs.declared.label.Label.{Label}
 use Rattle.lx_machine.specs.declared.label.Label.TheVariants as label
 use Rattle.lx_machine.specs.declared.label.LxSide.{LxSide}
 use Rattle.lx_machine.specs.declared.label.LxSide.TheVariants as side
 use Rattle.lx_machine.specs.declared.label.PendingList.{PendingList}
-use Rattle.lx_machine.specs.declared.label.PendingList.TheVariants.{Own, Shared}
 use Rattle.lx_machine.specs.declared.label.Pick.{Pick}
-use Rattle.lx_machine.specs.declared.signals.Action.{Action}
-use Rattle.lx_machine.specs.declared.signals.SigInfo.{SigInfo}
 use Rattle.lx_machine.specs.declared.threads.LxThread.{LxThread}
+use Rattle.lx_machine.specs.declared.threads.Life.{Life}
+use Rattle.lx_machine.specs.declared.threads.Life.TheVariants.{Live}
 use Rattle.lx_machine.specs.declared.threads.GuestEnd.{GuestEnd}
-use Rattle.lx_machine.specs.declared.threads.GuestEnd.TheVariants.{Killed}
 
--- what the calls do: a call as it has been entered, with its refusal if it is refused at entry; what a call without a
--- result does next; a call after it has fetched the bytes of a piece; and the steps Hold, Drop, Effect, Move and Leave.
--- None is no step
+-- What a step makes of a thread in a call: of the state in which the thread's place is free, the slot, the thread in no
+-- call, and the call. None is no step
+abbrev pub InCall : Type 0
+InCall = LinuxState → ℕ → LxThread → LxCall → Option LinuxState
+
+-- What a step makes of a thread: of the state in which the thread's place is free, the slot, and the thread
+abbrev pub OfThread : Type 0
+OfThread = LinuxState → ℕ → LxThread → Option LinuxState
+
+-- What the calls do.
+-- Of a call alone: `enter`, the call that SVC enters at this sp, with its refusal if it is refused at entry; `stage`, what a
+-- call does next; `fetched`, a call behind whose bytes those of a piece have come; `not_fetched`, one whose piece can't be
+-- read; `mask`, the signals that it then blocks for its time; `written` and `not_written`, a call after a piece was stored, and
+-- one whose piece can't be written.
+-- Of a thread in a call, the steps that the labels name; and of a thread, Take, Frame and Kill
 pub record Effects : Type 0 where
-  pub enter : LxCall → LxCall
+  pub enter : ℕ → LxCall → LxCall
   pub stage : LxCall → Stage
   pub fetched : LxCall → LxCall
-  pub hold : LinuxState → ℕ → LxThread → LxCall → Option LinuxState
-  pub let_go : LinuxState → ℕ → LxThread → LxCall → Option LinuxState
-  pub effect : LinuxState → ℕ → LxThread → LxCall → Bool → Option LinuxState
-  pub move : LinuxState → ℕ → LxThread → LxCall → List Pick → Option LinuxState
-  pub leave : LinuxState → ℕ → LxThread → LxCall → Option LinuxState
+  pub not_fetched : LxCall → LxCall
+  pub mask : LxCall → Option ℕ
+  pub written : LxCall → LxCall
+  pub not_written : LxCall → LxCall
+  pub hold : InCall
+  pub let_go : InCall
+  pub effect : Bool → InCall
+  pub move : List Pick → InCall
+  pub clock : InCall
+  pub queue : Wait → InCall
+  pub requeue : Requeue → InCall
+  pub word_op : WakeOp → InCall
+  pub mark : Mark → InCall
+  pub release : Wake → InCall
+  pub resume : InCall
+  pub expire : Stage → InCall
+  pub interrupt : PendingList → LinuxSig → Stage → InCall
+  pub start : InCall
+  pub leave : InCall
+  pub gone : InCall
+  pub return : Option (PendingList × LinuxSig) → InCall
+  pub take : PendingList → LinuxSig → OfThread
+  pub frame : OfThread
+  pub kill : OfThread
+  pub kill_in_call : InCall
+  pub drained : LinuxState → LxSide → LinuxState
 
 -- ---- threads that may step
 
--- a thread in no call, without a trap, a signal to be delivered, or its doom
+-- clone has let it start, and it has not left
+abbrev pub is_live : Life → Bool
+is_live Live = true
+is_live _ = false
+
+-- a live thread in no call, without a trap, a signal to be delivered, or its doom
 abbrev pub is_user : LxThread → Bool
-is_user t = not (is_some t.call) && not (is_some t.trap) && not (is_some t.taken) && not t.is_doomed
+is_user t = is_live t.life && not (is_some t.call) && not (is_some t.trap) && not (is_some t.taken) && not t.is_doomed
 
 abbrev pub outside_call : LinuxState → ℕ → (LxThread → Option LinuxState) → Option LinuxState
 outside_call L s f = bind (at_place L.threads s) (λ t. if is_user t then f t else None)
 
--- the thread in slot s in its call, with what the call does next
-abbrev pub in_call : (LxCall → Stage) → LinuxState → ℕ → (LxThread → LxCall → Stage → Option LinuxState) → Option LinuxState
-in_call stage_of L s f = bind (at_place L.threads s) (λ t. bind t.call (λ c. f t c (stage_of c)))
+-- the thread in slot s, whose place is then free
+abbrev pub on_thread : LinuxState → ℕ → OfThread → Option LinuxState
+on_thread L s f = bind (at_place L.threads s) (λ t. f (without_thread L s) s t)
+
+-- the same of a thread in a call, which is then in none, with what the call does next
+abbrev pub of_call : (LxCall → Stage) → (Stage → InCall) → OfThread
+of_call stage_of f L s t = bind t.call (λ c. f (stage_of c) L s (without_call t) c)
+
+abbrev pub in_call : (LxCall → Stage) → LinuxState → ℕ → (Stage → InCall) → Option LinuxState
+in_call stage_of L s f = on_thread L s (of_call stage_of f)
 
 -- ---- pieces: each is copied whole or, where any byte lacks the right, not at all
 
@@ -64,159 +108,151 @@ in_call stage_of L s f = bind (at_place L.threads s) (λ t. bind t.call (λ c. f
 abbrev pub with_fetched : LxCall → List ℕ → LxCall
 with_fetched c bytes = record c { fetched = c.fetched + 1; pieces = without_first c.pieces; bytes = c.bytes ++ bytes }
 
-abbrev pub fetch_of : (LxCall → LxCall) → LinuxState → ℕ → LxThread → LxCall → Piece → LinuxState
-fetch_of fetched L s t c p =
-    if is_allowed Read L.space.pages p.at p.len then in_call_of L s t (fetched (with_fetched c (bytes_at L.space.pages p.at p.len)))
-    else in_call_of L s t (refused c errno.EFAULT)
+-- a call that uses a mask for its time: the thread gets its own back when the call returns
+abbrev pub masked : Option ℕ → LxThread → LxThread
+masked None t = t
+masked (Some mask) t = record t { mask = mask; saved_mask = Some t.mask }
 
-abbrev pub fetch : (LxCall → LxCall) → LinuxState → ℕ → LxThread → LxCall → Stage → Option LinuxState
-fetch fetched L s t c (stage.Fetch p) = Some (fetch_of fetched L s t c p)
-fetch fetched L s t c _ = None
+abbrev pub has_fetched : Effects → LinuxState → ℕ → LxThread → LxCall → LinuxState
+has_fetched E L s t c = in_call_of L s (masked (E.mask c) t) c
+
+abbrev pub fetch_of : Effects → Piece → LinuxState → ℕ → LxThread → LxCall → LinuxState
+fetch_of E p L s t c =
+    if is_allowed Read L.space.pages p.at p.len then has_fetched E L s t (E.fetched (with_fetched c (bytes_at L.space.pages p.at p.len)))
+    else in_call_of L s t (E.not_fetched c)
+
+abbrev pub fetch : Effects → Stage → InCall
+fetch E (stage.Fetch p) L s t c = Some (fetch_of E p L s t c)
+fetch E _ L s t c = None
 
 -- Store: the first bytes that are left go to the first piece
 abbrev pub with_stored : LxCall → ℕ → LxCall
 with_stored c len = record c { pieces = without_first c.pieces; bytes = drop len c.bytes }
 
-abbrev pub store_of : LinuxState → ℕ → LxThread → LxCall → Piece → LinuxState
-store_of L s t c p =
-    if is_allowed Write L.space.pages p.at p.len then in_call_of (stored L s p.at (take p.len c.bytes)) s t (with_stored c p.len)
-    else in_call_of L s t (refused c errno.EFAULT)
+abbrev pub store_of : Effects → Piece → LinuxState → ℕ → LxThread → LxCall → LinuxState
+store_of E p L s t c =
+    if is_allowed Write L.space.pages p.at p.len then in_call_of (stored L s p.at (take p.len c.bytes)) s t (E.written (with_stored c p.len))
+    else in_call_of L s t (E.not_written c)
 
-abbrev pub store : LinuxState → ℕ → LxThread → LxCall → Stage → Option LinuxState
-store L s t c (stage.Store p) = Some (store_of L s t c p)
-store L s t c _ = None
+abbrev pub store : Effects → Stage → InCall
+store E (stage.Store p) L s t c = Some (store_of E p L s t c)
+store E _ L s t c = None
 
--- ---- the other steps of a call
+-- ---- the other steps of a call, where they are what it does next
 
-abbrev pub hold : Effects → LinuxState → ℕ → LxThread → LxCall → Stage → Option LinuxState
-hold E L s t c stage.Hold = E.hold L s t c
-hold E L s t c _ = None
+abbrev pub hold : Effects → Stage → InCall
+hold E stage.Hold L s t c = E.hold L s t c
+hold E _ L s t c = None
 
-abbrev pub let_go : Effects → LinuxState → ℕ → LxThread → LxCall → Stage → Option LinuxState
-let_go E L s t c stage.Drop = E.let_go L s t c
-let_go E L s t c _ = None
+abbrev pub let_go : Effects → Stage → InCall
+let_go E stage.Drop L s t c = E.let_go L s t c
+let_go E _ L s t c = None
 
-abbrev pub effect : Effects → Bool → LinuxState → ℕ → LxThread → LxCall → Stage → Option LinuxState
-effect E short L s t c stage.Effect = E.effect L s t c short
-effect E short L s t c _ = None
+abbrev pub effect : Effects → Bool → Stage → InCall
+effect E short stage.Effect L s t c = E.effect short L s t c
+effect E short _ L s t c = None
 
-abbrev pub move : Effects → List Pick → LinuxState → ℕ → LxThread → LxCall → Stage → Option LinuxState
-move E picks L s t c stage.Move = E.move L s t c picks
-move E picks L s t c _ = None
+abbrev pub move : Effects → List Pick → Stage → InCall
+move E picks stage.Move L s t c = E.move picks L s t c
+move E picks _ L s t c = None
 
-abbrev pub leave : Effects → LinuxState → ℕ → LxThread → LxCall → Stage → Option LinuxState
-leave E L s t c stage.Leave = E.leave L s t c
-leave E L s t c _ = None
+abbrev pub clock : Effects → Stage → InCall
+clock E stage.Clock L s t c = E.clock L s t c
+clock E _ L s t c = None
 
--- ---- signals
+abbrev pub queue : Effects → Stage → InCall
+queue E (stage.Queue w) L s t c = E.queue w L s t c
+queue E _ L s t c = None
 
-abbrev pub default_action : Action
-default_action = record { handler = 0; flags = 0; restorer = 0; mask = 0 }
+abbrev pub requeue : Effects → Stage → InCall
+requeue E (stage.Requeue r) L s t c = E.requeue r L s t c
+requeue E _ L s t c = None
 
--- the action of a signal
-abbrev pub action_of : LinuxState → LinuxSig → Action
-action_of L sig = slice_index_or L.actions (signal_number sig - 1) default_action
+abbrev pub word_op : Effects → Stage → InCall
+word_op E (stage.WakeOp w) L s t c = E.word_op w L s t c
+word_op E _ L s t c = None
 
-abbrev pub ended_by : LinuxState → LinuxSig → LinuxState
-ended_by L sig = record L { end = Some (Killed sig) }
+abbrev pub mark : Effects → Stage → InCall
+mark E (stage.Mark m) L s t c = E.mark m L s t c
+mark E _ L s t c = None
 
--- a signal that the thread in slot s takes, by its action: the default one ends the guest, or drops the signal. Handlers
--- are not built
-abbrev pub delivered : LinuxState → ℕ → LxThread → LinuxSig → Option LinuxState
-delivered L s t sig =
-    if not ((action_of L sig).handler == 0) then None else (
-    if is_dropped_by_default sig then Some (with_thread L s t) else Some (ended_by (with_thread L s t) sig))
+abbrev pub release : Effects → Stage → InCall
+release E (stage.Release w) L s t c = E.release w L s t c
+release E _ L s t c = None
 
--- the pending signals of the list
-abbrev pub pending_in : LinuxState → LxThread → PendingList → List SigInfo
-pending_in L t Own = t.pending
-pending_in L t Shared = L.pending
+abbrev pub resume : Effects → Stage → InCall
+resume E stage.Wait L s t c = E.resume L s t c
+resume E _ L s t c = None
 
--- the signal is pending no more, and is delivered
-abbrev pub taken_from : LinuxState → ℕ → LxThread → PendingList → LinuxSig → Option LinuxState
-taken_from L s t Own sig = delivered L s (record t { pending = without_signal sig t.pending }) sig
-taken_from L s t Shared sig = delivered (record L { pending = without_signal sig L.pending }) s t sig
+abbrev pub start : Effects → Stage → InCall
+start E stage.Start L s t c = E.start L s t c
+start E _ L s t c = None
 
--- the thread takes this signal, which it may take
-abbrev pub take_signal : LinuxState → ℕ → LxThread → PendingList → LinuxSig → Option LinuxState
-take_signal L s t list sig = if may_take t.mask (pending_in L t list) sig then taken_from L s t list sig else None
+abbrev pub leave : Effects → Stage → InCall
+leave E stage.Leave L s t c = E.leave L s t c
+leave E _ L s t c = None
 
--- no signal may be taken
-abbrev pub has_none_to_take : LinuxState → LxThread → Bool
-has_none_to_take L t = not (has_unblocked t.mask t.pending) && not (has_unblocked t.mask L.pending)
+abbrev pub gone : Effects → Stage → InCall
+gone E stage.Gone L s t c = E.gone L s t c
+gone E _ L s t c = None
 
--- Take of a thread that trapped: the signal of its trap, named as its own. Where it is blocked or its action is the
--- default one or to ignore it, it ends the guest. Handlers are not built
-abbrev pub forced : LinuxState → LxThread → LinuxSig → LinuxSig → Option LinuxState
-forced L t trap sig =
-    if not (signal_number trap == signal_number sig) then None else (
-    if has_signal t.mask sig || nat_le (action_of L sig).handler 1 then Some (ended_by L sig) else None)
+abbrev pub return_of : Effects → Option (PendingList × LinuxSig) → Stage → InCall
+return_of E named stage.Return L s t c = E.return named L s t c
+return_of E named _ L s t c = None
 
--- Take: of a trapped thread the signal of its trap, and else of a thread in no call a pending signal
-abbrev pub take_by : LinuxState → ℕ → LxThread → PendingList → LinuxSig → Option SigInfo → Option LinuxState
-take_by L s t Own sig (Some trap) = forced L t trap.signal sig
-take_by L s t Shared sig (Some trap) = None
-take_by L s t list sig None = if is_user t then take_signal L s t list sig else None
+-- ---- Kill: of a thread that is doomed, and of one whose call says so
 
-abbrev pub take_step : LinuxState → ℕ → PendingList → LinuxSig → Option LinuxState
-take_step L s list sig = bind (at_place L.threads s) (λ t. take_by L s t list sig t.trap)
+abbrev pub kill_in_call : Effects → Stage → InCall
+kill_in_call E stage.Kill L s t c = E.kill_in_call L s t c
+kill_in_call E _ L s t c = None
 
--- ---- the end of a call
+abbrev pub kill_of : Effects → OfThread
+kill_of E L s t = if t.is_doomed then E.kill L s t else of_call E.stage (kill_in_call E) L s t
 
--- x0 has the result, and the call is over
-abbrev pub with_result : LxThread → ℕ → LxThread
-with_result t n = record t { regs = record t.regs { x = slice_set t.regs.x 0 n }; call = None }
+-- ---- Time, and Drain: the first n bytes of a console room
 
--- a signal is named where one is taken, and none exactly where none may be taken
-abbrev pub return_with : LinuxState → ℕ → LxThread → Option (PendingList × LinuxSig) → Option LinuxState
-return_with L s t (Some named) = take_signal L s t named.0 named.1
-return_with L s t None = if has_none_to_take L t then Some (with_thread L s t) else None
-
-abbrev pub return_of : Option (PendingList × LinuxSig) → LinuxState → ℕ → LxThread → LxCall → Stage → Option LinuxState
-return_of named L s t c stage.Return = bind c.result (λ n. return_with L s (with_result t n) named)
-return_of named L s t c _ = None
-
--- ---- Drain: the first n bytes of a console room
-
-abbrev pub drained : LinuxState → LxSide → ℕ → LinuxState
-drained L side.Out n = record L { files = record L.files { out = drop n L.files.out } }
-drained L side.Err n = record L { files = record L.files { err = drop n L.files.err } }
+abbrev pub at_time : LinuxState → ℕ → Option LinuxState
+at_time L t = if nat_lt L.clock t then Some (record L { clock = t }) else None
 
 abbrev pub room_of : LinuxState → LxSide → List ℕ
 room_of L side.Out = L.files.out
 room_of L side.Err = L.files.err
 
-abbrev pub drain : LinuxState → LxSide → ℕ → Option LinuxState
-drain L which n = if nat_le 1 n && nat_le n (length (room_of L which)) then Some (drained L which n) else None
+abbrev pub without_bytes : LinuxState → LxSide → ℕ → LinuxState
+without_bytes L side.Out n = record L { files = record L.files { out = drop n L.files.out } }
+without_bytes L side.Err n = record L { files = record L.files { err = drop n L.files.err } }
+
+abbrev pub drain : Effects → LinuxState → LxSide → ℕ → Option LinuxState
+drain E L which n = if nat_le 1 n && nat_le n (length (room_of L which)) then Some (E.drained (without_bytes L which n) which) else None
 
 -- ---- LStep and LRun
 
 abbrev pub step_of : Effects → LinuxState → Label → Option LinuxState
 step_of E L (label.Instr s) = outside_call L s (λ t. Some (instruction E.enter L s t))
-step_of E L (label.Fetch s) = in_call E.stage L s (fetch E.fetched L s)
-step_of E L (label.Store s) = in_call E.stage L s (store L s)
-step_of E L (label.Hold s) = in_call E.stage L s (hold E L s)
-step_of E L (label.Drop s) = in_call E.stage L s (let_go E L s)
-step_of E L (label.Effect s short) = in_call E.stage L s (effect E short L s)
-step_of E L (label.Move s picks) = in_call E.stage L s (move E picks L s)
-step_of E L (label.Leave s) = in_call E.stage L s (leave E L s)
-step_of E L (label.Return s named) = in_call E.stage L s (return_of named L s)
-step_of E L (label.Take s list sig) = take_step L s list sig
-step_of E L (label.Drain which n) = drain L which n
-step_of E L (label.Clock s) = None
-step_of E L (label.Queue s) = None
-step_of E L (label.Requeue s) = None
-step_of E L (label.WakeOp s) = None
-step_of E L (label.Mark s) = None
-step_of E L (label.Release s) = None
-step_of E L (label.Resume s) = None
-step_of E L (label.Expire s) = None
-step_of E L (label.Interrupt s list sig) = None
-step_of E L (label.Start s) = None
-step_of E L (label.Gone s) = None
-step_of E L (label.Frame s) = None
-step_of E L (label.Kill s) = None
-step_of E L (label.Time t) = None
+step_of E L (label.Fetch s) = in_call E.stage L s (fetch E)
+step_of E L (label.Store s) = in_call E.stage L s (store E)
+step_of E L (label.Hold s) = in_call E.stage L s (hold E)
+step_of E L (label.Drop s) = in_call E.stage L s (let_go E)
+step_of E L (label.Effect s short) = in_call E.stage L s (effect E short)
+step_of E L (label.Move s picks) = in_call E.stage L s (move E picks)
+step_of E L (label.Clock s) = in_call E.stage L s (clock E)
+step_of E L (label.Queue s) = in_call E.stage L s (queue E)
+step_of E L (label.Requeue s) = in_call E.stage L s (requeue E)
+step_of E L (label.WakeOp s) = in_call E.stage L s (word_op E)
+step_of E L (label.Mark s) = in_call E.stage L s (mark E)
+step_of E L (label.Release s) = in_call E.stage L s (release E)
+step_of E L (label.Resume s) = in_call E.stage L s (resume E)
+step_of E L (label.Expire s) = in_call E.stage L s E.expire
+step_of E L (label.Interrupt s list sig) = in_call E.stage L s (E.interrupt list sig)
+step_of E L (label.Start s) = in_call E.stage L s (start E)
+step_of E L (label.Leave s) = in_call E.stage L s (leave E)
+step_of E L (label.Gone s) = in_call E.stage L s (gone E)
+step_of E L (label.Return s named) = in_call E.stage L s (return_of E named)
+step_of E L (label.Take s list sig) = on_thread L s (E.take list sig)
+step_of E L (label.Frame s) = on_thread L s E.frame
+step_of E L (label.Kill s) = on_thread L s (kill_of E)
+step_of E L (label.Time t) = at_time L t
+step_of E L (label.Drain which n) = drain E L which n
 
 -- a guest that has ended takes no step
 abbrev pub unless_ended : Option GuestEnd → Option LinuxState → Option LinuxState

@@ -4,7 +4,7 @@ use Rattle.std.specs.Prelude.{ℕ, suc, ◌+◌, ◌-◌, ◌==◌, Bool, ◌&&�
 use Rattle.places.specs.Places as place
 use Rattle.a64_model.specs.declared.regs.Regs.{Regs}
 use Rattle.linux_abi.specs.declared.signals.LinuxSig.{LinuxSig}
-use Rattle.lx_machine.specs.Lists.{with_place}
+use Rattle.lx_machine.specs.Lists.{with_place, without_place}
 use Rattle.lx_machine.specs.declared.state.LinuxState.{LinuxState}
 use Rattle.lx_machine.specs.declared.calls.LxCall.{LxCall}
 use Rattle.lx_machine.specs.declared.signals.Origin.TheVariants.{Address}
@@ -13,6 +13,14 @@ use Rattle.lx_machine.specs.declared.threads.LxThread.{LxThread}
 -- the thread in slot s is this
 abbrev pub with_thread : LinuxState → ℕ → LxThread → LinuxState
 with_thread L s t = record L { threads = with_place L.threads s t }
+
+-- the place of the thread in slot s is free
+abbrev pub without_thread : LinuxState → ℕ → LinuxState
+without_thread L s = record L { threads = without_place L.threads s }
+
+-- the thread in no call
+abbrev pub without_call : LxThread → LxThread
+without_call t = record t { call = None }
 
 -- the thread with these registers
 abbrev pub with_regs : LxThread → Regs → LxThread
