@@ -1,15 +1,6 @@
 pub mod Answering
 pub mod Exchanged
-pub mod FileStepped
 pub mod Filled
 pub mod Instructed
-pub mod Joining
-pub mod FirstStack
-pub mod Mapped
-pub mod MemoryStepped
-pub mod Nones
-pub mod Pushed
 pub mod Small
-pub mod Started
-pub mod Taking
-pub mod Delivering
+pub mod PutBack

@@ -1,13 +1,4 @@
 pub mod Accesses
-pub mod MemorySteps
+pub mod CallSteps
 pub mod Places
-pub mod FileSteps
-pub mod FirstStack
-pub mod Labels
-pub mod Parts
-pub mod ProcessSteps
-pub mod SignalPlaces
-pub mod SignalSteps
-pub mod Stack
-pub mod Start
 pub mod Steps

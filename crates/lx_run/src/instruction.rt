@@ -105,7 +105,7 @@ fn call(alloc: Global, thread: &mut LxThread) -> Result<(), NoMemory>
     ensures err { OnErr result (thread.new ≡ thread.old) }
 {
     let mut call = called(alloc, &thread.regs);
-    enter(alloc, &mut call)?;
+    enter(alloc, thread.regs.sp, &mut call)?;
     thread.regs.advance();
     thread.mark = None;
     thread.call = Some(call);

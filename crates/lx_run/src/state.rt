@@ -4,17 +4,17 @@ ghost use Rattle.elf_image.specs.Layout.{IsPlaced};
 ghost use Rattle.lx_machine.specs.Step as machine;
 ghost use Rattle.lx_calls.specs.Table as table;
 ghost use Rattle.lx_calls.specs.Table.{effects};
-ghost use Rattle.lx_run.specs.Start as spec;
-ghost use Rattle.lx_run.specs.Stack.{name_of, arguments_of};
+ghost use Rattle.lx_start.specs.Start as spec;
+ghost use Rattle.lx_start.specs.Stack.{name_of, arguments_of};
 ghost use Rattle.lx_run.specs.Steps.{Steps};
 
-use crate::start::first_state;
-use crate::{file_steps, joined, memory_steps, process_steps, signal_steps, threads};
+use crate::threads;
 use elf_image::Image;
 use lx_machine::buffer::NoMemory;
 use lx_machine::label::Label;
 use lx_machine::refusal::LxRefusal;
 use lx_machine::state::LinuxState;
+use lx_start::start::first_state;
 use std::alloc::Global;
 
 /// The Linux machine.
@@ -29,16 +29,6 @@ fn step_on(state: &mut LinuxState, alloc: Global, label: &Label) -> Result<(), L
 {
     match label {
         Label::Instr(slot) => threads::instruction(state, alloc, *slot),
-        Label::Fetch(slot) => memory_steps::fetch(state, alloc, *slot),
-        Label::Store(slot) => memory_steps::store(state, *slot),
-        Label::Hold(slot) => file_steps::hold(state, *slot),
-        Label::Drop(slot) => file_steps::let_go(state, *slot),
-        Label::Effect(slot, short) => joined::effect(state, alloc, *slot, *short),
-        Label::Move(slot, picks) => joined::move_picked(state, alloc, *slot, picks),
-        Label::Leave(slot) => process_steps::leave(state, *slot),
-        Label::Return(slot, named) => signal_steps::return_result(state, *slot, *named),
-        Label::Take(slot, list, signal) => signal_steps::take_signal(state, *slot, *list, *signal),
-        Label::Drain(side, n) => joined::drain(state, *side, *n),
         _ => Err(LxRefusal::NoStep),
     }
 }

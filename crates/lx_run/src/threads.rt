@@ -11,7 +11,7 @@ use crate::instruction::{Written, run};
 use lx_machine::buffer::NoMemory;
 use lx_machine::refusal::LxRefusal;
 use lx_machine::state::{LinuxState, THREADS};
-use lx_machine::threads::LxThread;
+use lx_machine::threads::{Life, LxThread};
 use lx_memory::Memory;
 use std::alloc::Global;
 
@@ -67,11 +67,11 @@ pub(crate) fn unmark(state: &mut LinuxState, slot: u8, at: u128, len: u128)
     }
 }
 
-/// Whether the thread is in no call, and has no trap, no signal to be delivered, and no doom.
+/// Whether the thread is live and in no call, and has no trap, no signal to be delivered, and no doom.
 pub(crate) fn is_user(thread: &LxThread) -> bool
     ensures { result ≡ is_user thread.now }
 {
-    thread.call.is_none() && thread.trap.is_none() && thread.taken.is_none() && !thread.is_doomed
+    matches!(thread.life, Life::Live) && thread.call.is_none() && thread.trap.is_none() && thread.taken.is_none() && !thread.is_doomed
 }
 
 /// The instruction of the thread in this place, if it has one that may run.

@@ -1,6 +1,0 @@
-use Rattle.std.proofs.Common.{◌≡◌, ◌++◌, take}
-use Rattle.lx_run.specs.Stack.{words}
-use Rattle.lx_run.proofs.stack.push_words.Given as goal
-
-abbrev pub invariant-loop-word : goal.invariant-loop-word
-invariant-loop-word l = l.bytes.items ≡ l.initial.bytes.items ++ words (take l.word-index l.words)

@@ -1,6 +1,0 @@
-use Rattle.std.proofs.Common.{rules}
-use Rattle.lx_run.proofs.Nones.{all_none}
-use Rattle.lx_run.proofs.start.no_epolls.Goals as goal
-
-pub returns : goal.returns
-returns c = all_none c.from_fn.result 32 c.from_fn.ensures.items.long (λ i e lt. let made = (c.from_fn.ensures.items.at i e lt).2.met in search rules)

@@ -1,0 +1,102 @@
+//! A thread is taken out of its place, steps, and is put back; and so is the call of a thread.
+ghost use Rattle.std.specs.Prelude.{◌≡◌, ◌<◌, slice_get, Some, None, IfSome};
+ghost use Rattle.lx_machine.specs.Lists.{at_place, without_place};
+ghost use Rattle.lx_machine.specs.Threads.{with_thread};
+ghost use Rattle.lx_machine.specs.Step.{in_call, of_call};
+ghost use Rattle.lx_calls.specs.Shape.{stage_of};
+ghost use Rattle.lx_run.specs.CallSteps.{call_step, CallGoes, ThreadGoes};
+ghost use Rattle.lx_run.specs.Steps.{Steps};
+
+use crate::{file_steps, pieces};
+use lx_calls::shape::stage_of;
+use lx_machine::calls::{LxCall, Stage};
+use lx_machine::label::Label;
+use lx_machine::refusal::LxRefusal;
+use lx_machine::state::{LinuxState, THREADS};
+use lx_machine::threads::LxThread;
+use std::alloc::Global;
+use std::mem;
+
+/// The step of a thread in a call that a label names.
+fn step_call(
+    state: &mut LinuxState,
+    alloc: Global,
+    slot: u8,
+    thread: &mut LxThread,
+    call: &mut LxCall,
+    stage: Stage,
+    label: &Label,
+) -> Result<(), LxRefusal>
+    ensures { CallGoes (call_step label.now stage state.old slot thread.old call.old) state.old state.new slot thread.old thread.new call.old call.new result }
+{
+    match label {
+        Label::Fetch(_) => pieces::fetch(state, alloc, slot, thread, call, stage),
+        Label::Store(_) => pieces::store(state, slot, thread, call, stage),
+        Label::Hold(_) => file_steps::hold(state, slot, thread, call, stage),
+        Label::Drop(_) => file_steps::let_go(state, slot, thread, call, stage),
+        _ => Err(LxRefusal::NoStep),
+    }
+}
+
+/// The same, of a thread.
+#[tactic(auto, using(crate::proofs::PutBack::call_back))]
+fn step_thread(
+    state: &mut LinuxState,
+    alloc: Global,
+    slot: u8,
+    thread: &mut LxThread,
+    label: &Label,
+) -> Result<(), LxRefusal>
+    ensures { ThreadGoes (of_call stage_of (call_step label.now) state.old slot thread.old) state.old state.new slot thread.old thread.new result }
+{
+    match mem::replace(&mut thread.call, None) {
+        Some(mut call) => {
+            let stage = stage_of(&call);
+            let result = step_call(state, alloc, slot, thread, &mut call, stage, label);
+            thread.call = Some(call);
+            result
+        }
+        None => Err(LxRefusal::NoStep),
+    }
+}
+
+/// Takes the thread out of a slot, if there is one.
+#[tactic(auto, using(crate::proofs::Instructed::got, crate::proofs::Instructed::not_got, crate::proofs::Instructed::set_back))]
+fn take_from(threads: &mut [Option<LxThread>; THREADS], slot: u8) -> Option<LxThread>
+    ensures there { IfSome result (λ t. slice_get threads.old slot ≡ Some (Some t)) }
+    ensures out { IfSome result (λ t. threads.new ≡ without_place threads.old slot) }
+    ensures within { IfSome result (λ t. slot < 32) }
+    ensures nowhere { result ≡ None → (at_place threads.old slot ≡ None) × (threads.new ≡ threads.old) }
+{
+    let at = slot as usize;
+    if at >= THREADS {
+        return None;
+    }
+    mem::replace(&mut threads[at], None)
+}
+
+/// Puts a thread into a slot.
+fn put_back(state: &mut LinuxState, slot: u8, thread: LxThread)
+    requires { slot < 32 }
+    ensures { state.new ≡ with_thread state.old slot thread }
+{
+    state.threads[slot as usize] = Some(thread);
+}
+
+/// The step of the thread in a slot, in its call, that a label names.
+#[tactic(auto, using(crate::proofs::PutBack::thread_back))]
+pub fn in_call(
+    state: &mut LinuxState,
+    alloc: Global,
+    slot: u8,
+    label: &Label,
+) -> Result<(), LxRefusal>
+    ensures { Steps (in_call stage_of state.old slot (call_step label.now)) state.old state.new result }
+{
+    let Some(mut thread) = take_from(&mut state.threads, slot) else {
+        return Err(LxRefusal::NoStep);
+    };
+    let result = step_thread(state, alloc, slot, &mut thread, label);
+    put_back(state, slot, thread);
+    result
+}

@@ -1,0 +1,4 @@
+pub mod FirstStack
+pub mod Parts
+pub mod Stack
+pub mod Start
