@@ -5,5 +5,7 @@
 pub mod clones;
 pub mod deaths;
 pub mod futexes;
+#[cfg(test)]
+mod tests;
 pub mod time;
 pub mod words;
