@@ -1,3 +1,4 @@
 pub mod HighestGaps
 pub mod Lacking
 pub mod PageTests
+pub mod Waiters

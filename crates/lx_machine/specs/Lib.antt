@@ -3,6 +3,7 @@ pub mod Instructions
 pub mod Lists
 pub mod Memory
 pub mod Pieces
+pub mod Queue
 pub mod Signals
 pub mod Step
 pub mod Threads

@@ -1,0 +1,5 @@
+pub mod Clones
+pub mod Deaths
+pub mod Futexes
+pub mod Time
+pub mod Words
