@@ -1,0 +1,5 @@
+//! What signals do in the Linux machine, on the parts of its state that they need: threads, pending signals, actions and
+//! memory. The plain functions compute the definitions of `specs/`.
+#![tactic(auto)]
+
+pub mod taking;
