@@ -182,6 +182,39 @@ abbrev pub return_as : Bool → List Action → List SigInfo → Option (Pending
 return_as restarts actions pending named t c stage.Return = bind c.result (λ n. returned restarts actions t pending (argument c 0) n named c.kept)
 return_as restarts actions pending named t c _ = None
 
+abbrev pub return_thread : Bool → Stage → List Action → List SigInfo → Option (PendingList × LinuxSig) → LxThread → Option Delivered
+return_thread restarts stage actions pending named t = bind t.call (λ c. return_as restarts actions pending named t c stage)
+
+-- ---- Interrupt
+
+-- the thread and the shared pending signals after a signal has ended the wait of a call
+pub record Interrupted : Type 0 where
+  pub thread : LxThread
+  pub pending : List SigInfo
+
+-- the call keeps the signal, with its information
+abbrev pub with_kept : LxCall → PendingList → SigInfo → LxCall
+with_kept c list info = record c { kept = Some (record { list = list; info = info }) }
+
+abbrev pub kept_from : LxThread → List SigInfo → PendingList → SigInfo → Interrupted
+kept_from t pending Own info = record { thread = record t { pending = without_signal info.signal t.pending }; pending = pending }
+kept_from t pending Shared info = record { thread = t; pending = without_signal info.signal pending }
+
+abbrev pub kept_by : LxThread → List SigInfo → PendingList → LxCall → SigInfo → Interrupted
+kept_by t pending list c info = kept_from (record t { call = Some (with_kept c list info) }) pending list info
+
+-- a signal that the thread may take leaves its list, and is kept in the thread's call
+abbrev pub interrupted : LxThread → List SigInfo → PendingList → LinuxSig → Option Interrupted
+interrupted t pending list sig = bind t.call (λ c. option_map (kept_by t pending list c) (found_in t.mask (listed t.pending pending list) sig))
+
+-- a function that computes it: where there is no such step, nothing changes
+abbrev pub Interrupts : Option Interrupted → LxThread → LxThread → List SigInfo → List SigInfo → Result Unit LxRefusal → Type 0
+Interrupts (Some i) t t' pending pending' (Ok done) = (t' ≡ i.thread) × (pending' ≡ i.pending)
+Interrupts None t t' pending pending' (Ok done) = ⊥
+Interrupts (Some i) t t' pending pending' (Err NoStep) = ⊥
+Interrupts None t t' pending pending' (Err NoStep) = (t' ≡ t) × (pending' ≡ pending)
+Interrupts o t t' pending pending' (Err NoMemory) = (t' ≡ t) × (pending' ≡ pending)
+
 -- ---- Take
 
 -- the code of a trap: that of SIGSEGV tells whether the address's page is mapped now (SEGV_ACCERR, SEGV_MAPERR)
