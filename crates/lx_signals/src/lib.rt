@@ -2,4 +2,5 @@
 //! memory. The plain functions compute the definitions of `specs/`.
 #![tactic(auto)]
 
+pub mod sending;
 pub mod taking;
