@@ -1,6 +1,6 @@
 -- A signal sent to the thread in a place, which is the first live one with its tid from there on.
 use Rattle.std.proofs.Common.{◌≡◌, ℕ, zero, suc, ◌<◌, Bool, true, List, [], ◌∷◌, ◌++◌, Option, length, take, drop, slice_set, refl, ap, arith}
-use Rattle.std.specs.Prelude.{slice_index_or, if◌then◌else◌}
+use Rattle.std.specs.Prelude.{slice_index_or}
 use Rattle.lx_machine.specs.declared.signals.SigInfo.{SigInfo}
 use Rattle.lx_machine.specs.declared.threads.LxThread.{LxThread}
 use Rattle.lx_signals.specs.Sending.{is_live_as, sent_at, sent_to}

@@ -1,2 +1,5 @@
+pub mod Actions
+pub mod Masks
 pub mod Sending
+pub mod Stacks
 pub mod Taking

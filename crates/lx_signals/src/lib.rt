@@ -2,5 +2,9 @@
 //! memory. The plain functions compute the definitions of `specs/`.
 #![tactic(auto)]
 
+pub mod actions;
+pub mod masks;
+pub mod numbers;
 pub mod sending;
+pub mod stacks;
 pub mod taking;
