@@ -1,4 +1,5 @@
 pub mod Actions
+pub mod Frames
 pub mod Masks
 pub mod Sending
 pub mod Stacks

@@ -3,8 +3,10 @@
 #![tactic(auto)]
 
 pub mod actions;
+pub mod frames;
 pub mod masks;
 pub mod numbers;
 pub mod sending;
+pub mod sigreturn;
 pub mod stacks;
 pub mod taking;

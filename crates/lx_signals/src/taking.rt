@@ -224,7 +224,7 @@ fn leave_call(again: bool, thread: &mut LxThread, first: u64, n: u64)
 }
 
 /// The mask that a call gives back when it returns.
-fn given_back(mask: u64, saved: Option<u64>) -> u64
+pub(crate) fn given_back(mask: u64, saved: Option<u64>) -> u64
     ensures { result ≡ given_back mask saved }
 {
     match saved {
