@@ -106,7 +106,11 @@ fn forgets_with(signal: LinuxSig, new: Option<Action>) -> Option<LinuxSig>
 
 /// The effect of rt_sigaction(2) on the actions: the action of the signal changes, and the one before is stored. The answer is
 /// the signal that is pending nowhere any more, if there is one. Where memory is wanting, nothing changes.
-pub fn sigaction(alloc: Global, actions: &mut [Action; 64], call: &mut LxCall) -> Result<Option<LinuxSig>, NoMemory>
+pub fn sigaction(
+    alloc: Global,
+    actions: &mut [Action; 64],
+    call: &mut LxCall,
+) -> Result<Option<LinuxSig>, NoMemory>
     ensures forgets { IfOk result (λ forgets. forgets ≡ spec.sigaction_forgets call.old) }
     ensures actions { OnOk result (actions.new ≡ spec.sigaction_actions actions.old call.old) }
     ensures call { OnOk result (call.new ≡ spec.sigaction_call actions.old call.old) }

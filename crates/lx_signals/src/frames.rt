@@ -153,7 +153,10 @@ fn frame_of(regs: &Regs, stack: AltStack, mask: u64, info: SigInfo) -> ArrayVec<
     push_words(&mut frame, &info_words(info));
     push_words(&mut frame, &context_words(regs.sp, stack, mask, info));
     push_words(&mut frame, &regs.x);
-    push_words(&mut frame, &[regs.sp, regs.pc, u64::from(regs.nzcv) * (1 << 28)]);
+    push_words(
+        &mut frame,
+        &[regs.sp, regs.pc, u64::from(regs.nzcv) * (1 << 28)],
+    );
     push_words(&mut frame, &[0; 513]);
     push_words(&mut frame, &[regs.x[29], regs.x[30]]);
     frame
@@ -191,7 +194,11 @@ fn if_writable(memory: &Memory, at: u64) -> Option<u64>
     ensures mapped { IfSome result (λ at. IsMapped memory.now at 4704) }
     ensures bound { IfSome result (λ at. at + 4704 ≤ 2 ^ 64) }
 {
-    if is_writable(memory, at) { Some(at) } else { None }
+    if is_writable(memory, at) {
+        Some(at)
+    } else {
+        None
+    }
 }
 
 /// The address of the frame below this, if each byte of the frame and its record may be written.
@@ -259,7 +266,12 @@ fn enter_handler(taken: Taken, at: u64, thread: &mut LxThread)
     requires { at + 4704 ≤ 2 ^ 64 }
     ensures { thread.new ≡ spec.in_handler taken at thread.old }
 {
-    set_handler_regs(taken.action, taken.info.signal.number(), at, &mut thread.regs);
+    set_handler_regs(
+        taken.action,
+        taken.info.signal.number(),
+        at,
+        &mut thread.regs,
+    );
     thread.mask = handler_mask(taken, thread.mask);
     thread.saved_mask = None;
     thread.taken = None;

@@ -4,7 +4,9 @@ ghost use Rattle.places.specs.Places.{bytes_of};
 ghost use Rattle.lx_machine.specs.Calls.{first_refusal};
 ghost use Rattle.lx_signals.specs.Masks as spec;
 
-use crate::numbers::{answer_storing, append_number, eight_bytes, fetch_then, number, one_piece, optional_piece};
+use crate::numbers::{
+    answer_storing, append_number, eight_bytes, fetch_then, number, one_piece, optional_piece,
+};
 use linux_abi::LinuxErrno;
 use linux_abi::signals::{MaskChange, SIGSET_SIZE, UNBLOCKABLE};
 use lx_machine::buffer::{Bytes, NoMemory};
@@ -133,7 +135,13 @@ fn first_set_bytes(alloc: Global, set: u64, size: u64) -> Result<Bytes, NoMemory
 }
 
 /// The effect of rt_sigpending(2): the first bytes of the set are stored. Where memory is wanting, nothing changes.
-pub fn sigpending(alloc: Global, mask: u64, own: &Pending, shared: &Pending, call: &mut LxCall) -> Result<(), NoMemory>
+pub fn sigpending(
+    alloc: Global,
+    mask: u64,
+    own: &Pending,
+    shared: &Pending,
+    call: &mut LxCall,
+) -> Result<(), NoMemory>
     ensures ok { OnOk result (call.new ≡ spec.sigpending_call mask own.now shared.now call.old) }
     ensures err { OnErr result (call.new ≡ call.old) }
 {

@@ -114,7 +114,12 @@ pub(crate) fn fetch_then(next: Stage, pieces: &Pieces) -> Stage
 }
 
 /// The call answers 0 and stores these bytes at an address that is optional. Where memory is wanting, nothing changes.
-pub(crate) fn answer_storing(alloc: Global, call: &mut LxCall, at: u64, bytes: Bytes) -> Result<(), NoMemory>
+pub(crate) fn answer_storing(
+    alloc: Global,
+    call: &mut LxCall,
+    at: u64,
+    bytes: Bytes,
+) -> Result<(), NoMemory>
     ensures ok { OnOk result (call.new ≡ answered_storing call.old at bytes) }
     ensures err { OnErr result (call.new ≡ call.old) }
 {

@@ -136,7 +136,13 @@ fn send_at(ignored: bool, info: SigInfo, place: &mut Option<LxThread>) -> Result
 
 /// A signal is sent to the live thread with this tid in the places from `at` on. Where memory is wanting, nothing changes.
 #[tactic(auto, using(crate::proofs::Sent::sent_here))]
-fn send_from(at: usize, tid: u32, ignored: bool, info: SigInfo, threads: &mut [Option<LxThread>; THREADS]) -> Result<(), NoMemory>
+fn send_from(
+    at: usize,
+    tid: u32,
+    ignored: bool,
+    info: SigInfo,
+    threads: &mut [Option<LxThread>; THREADS],
+) -> Result<(), NoMemory>
     requires { at ≤ 32 }
     ensures ok { OnOk result (threads.new ≡ take at threads.old ++ sent_to tid ignored info (drop at threads.old)) }
     ensures err { OnErr result (threads.new ≡ threads.old) }
@@ -151,7 +157,12 @@ fn send_from(at: usize, tid: u32, ignored: bool, info: SigInfo, threads: &mut [O
 }
 
 /// A signal is sent to the live thread with this tid. Where memory is wanting, nothing changes.
-fn send_to(tid: u32, ignored: bool, info: SigInfo, threads: &mut [Option<LxThread>; THREADS]) -> Result<(), NoMemory>
+fn send_to(
+    tid: u32,
+    ignored: bool,
+    info: SigInfo,
+    threads: &mut [Option<LxThread>; THREADS],
+) -> Result<(), NoMemory>
     ensures ok { OnOk result (threads.new ≡ sent_to tid ignored info threads.old) }
     ensures err { OnErr result (threads.new ≡ threads.old) }
 {
@@ -297,7 +308,12 @@ pub fn answer_by(sending: Sending, call: &mut LxCall)
 }
 
 /// It is sent. Where memory is wanting, nothing changes.
-pub fn perform(sending: Sending, actions: &[Action; 64], threads: &mut [Option<LxThread>; THREADS], shared: &mut Pending) -> Result<(), NoMemory>
+pub fn perform(
+    sending: Sending,
+    actions: &[Action; 64],
+    threads: &mut [Option<LxThread>; THREADS],
+    shared: &mut Pending,
+) -> Result<(), NoMemory>
     ensures shared { OnOk result (shared.new ≡ spec.pending_after sending actions.now shared.old) }
     ensures threads { OnOk result (threads.new ≡ spec.threads_after sending actions.now threads.old) }
     ensures shared_err { OnErr result (shared.new ≡ shared.old) }

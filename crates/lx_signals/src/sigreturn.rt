@@ -18,9 +18,13 @@ const FETCHED: u64 = 456;
 
 /// The places of the mask, x0, sp, pc and pstate in ucontext.
 const MASK: usize = 40;
+
 const X0: usize = 184;
+
 const SP: usize = 432;
+
 const PC: usize = 440;
+
 const PSTATE: usize = 448;
 
 /// What a thread with this stack pointer fetches: the first bytes of ucontext, unless sp is not aligned or they begin outside the
@@ -51,7 +55,7 @@ pub fn sigreturn_stage(call: &LxCall) -> Stage
 }
 
 /// The numbers of x0 to x30, from the register i on.
-#[tactic(auto, using(crate::proofs::Restored::numbers_more))]
+#[tactic(auto, using(crate::proofs::Restored::read_more, crate::proofs::Restored::read_all))]
 fn read_from(i: usize, bytes: &[u8], x: &mut [u64; 31])
     requires { i ≤ 31 }
     ensures { x.new ≡ take i x.old ++ numbers bytes.now (184 + 8 * i) (31 - i) }

@@ -3,7 +3,9 @@ ghost use Rattle.std.specs.Prelude.{◌≡◌, ◌≤◌, OnOk, OnErr, IfOk};
 ghost use Rattle.lx_machine.specs.Calls.{first_refusal};
 ghost use Rattle.lx_signals.specs.Stacks as spec;
 
-use crate::numbers::{answer_storing, append_number, number, optional_piece, small_number, fetch_then};
+use crate::numbers::{
+    answer_storing, append_number, fetch_then, number, optional_piece, small_number,
+};
 use linux_abi::LinuxErrno;
 use linux_abi::signals::MINSIGSTKSZ;
 use lx_machine::buffer::{Bytes, NoMemory};
@@ -24,7 +26,9 @@ const STACK: u64 = 24;
 pub fn is_on(sp: u64, stack: AltStack) -> bool
     ensures { result ≡ spec.is_on sp stack }
 {
-    stack.enabled && stack.at < sp && u128::from(sp) <= u128::from(stack.at) + u128::from(stack.size)
+    stack.enabled
+        && stack.at < sp
+        && u128::from(sp) <= u128::from(stack.at) + u128::from(stack.size)
 }
 
 /// SS_ONSTACK, SS_DISABLE, or neither.
@@ -132,7 +136,12 @@ fn stack_after(stack: AltStack, call: &LxCall) -> AltStack
 
 /// The effect of sigaltstack(2) on the alternative stack of a thread with this stack pointer: it changes, and the one before is
 /// stored; or the call is refused. Where memory is wanting, nothing changes.
-pub fn sigaltstack(alloc: Global, sp: u64, stack: &mut AltStack, call: &mut LxCall) -> Result<(), NoMemory>
+pub fn sigaltstack(
+    alloc: Global,
+    sp: u64,
+    stack: &mut AltStack,
+    call: &mut LxCall,
+) -> Result<(), NoMemory>
     ensures stack { OnOk result (stack.new ≡ spec.sigaltstack_stack sp stack.old call.old) }
     ensures call { OnOk result (call.new ≡ spec.sigaltstack_call sp stack.old call.old) }
     ensures stack_err { OnErr result (stack.new ≡ stack.old) }

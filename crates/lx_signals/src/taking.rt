@@ -141,7 +141,12 @@ fn fate_by(action: Action, signal: LinuxSig) -> Fate
 }
 
 /// A signal is delivered by this action.
-fn deliver_by(action: Action, actions: &mut [Action; 64], thread: &mut LxThread, info: SigInfo) -> Fate
+fn deliver_by(
+    action: Action,
+    actions: &mut [Action; 64],
+    thread: &mut LxThread,
+    info: SigInfo,
+) -> Fate
     ensures thread { thread.new ≡ spec.thread_by action thread.old info }
     ensures actions { actions.new ≡ spec.actions_by action actions.old info.signal }
     ensures fate { result ≡ spec.fate_by action info.signal }
@@ -173,7 +178,13 @@ fn found_among(mask: u64, infos: &Pending, signal: LinuxSig) -> Option<SigInfo>
 }
 
 /// The pending signal of this number, if a thread with this mask may take it from the list.
-fn found(mask: u64, own: &Pending, shared: &Pending, list: PendingList, signal: LinuxSig) -> Option<SigInfo>
+fn found(
+    mask: u64,
+    own: &Pending,
+    shared: &Pending,
+    list: PendingList,
+    signal: LinuxSig,
+) -> Option<SigInfo>
     ensures { result ≡ found_in mask (listed own.now shared.now list) signal }
 {
     match list {
@@ -183,7 +194,13 @@ fn found(mask: u64, own: &Pending, shared: &Pending, list: PendingList, signal: 
 }
 
 /// The signal leaves its list, and is delivered.
-fn take_out(actions: &mut [Action; 64], thread: &mut LxThread, shared: &mut Pending, list: PendingList, info: SigInfo) -> Fate
+fn take_out(
+    actions: &mut [Action; 64],
+    thread: &mut LxThread,
+    shared: &mut Pending,
+    list: PendingList,
+    info: SigInfo,
+) -> Fate
     ensures { Gives (spec.taken actions.old thread.old shared.old list info) thread.new shared.new actions.new result }
 {
     match list {
@@ -194,7 +211,13 @@ fn take_out(actions: &mut [Action; 64], thread: &mut LxThread, shared: &mut Pend
 }
 
 /// The thread takes this signal, which it may take.
-fn take(actions: &mut [Action; 64], thread: &mut LxThread, shared: &mut Pending, list: PendingList, signal: LinuxSig) -> Result<Fate, LxRefusal>
+fn take(
+    actions: &mut [Action; 64],
+    thread: &mut LxThread,
+    shared: &mut Pending,
+    list: PendingList,
+    signal: LinuxSig,
+) -> Result<Fate, LxRefusal>
     ensures { Delivers (spec.take actions.old thread.old shared.old list signal) thread.old thread.new shared.old shared.new actions.old actions.new result }
 {
     match found(thread.mask, &thread.pending, shared, list, signal) {
@@ -242,7 +265,16 @@ fn unmask(thread: &mut LxThread)
 }
 
 /// Return, where the named signal is taken.
-fn return_taking(again: bool, actions: &mut [Action; 64], thread: &mut LxThread, shared: &mut Pending, first: u64, n: u64, list: PendingList, signal: LinuxSig) -> Result<Fate, LxRefusal>
+fn return_taking(
+    again: bool,
+    actions: &mut [Action; 64],
+    thread: &mut LxThread,
+    shared: &mut Pending,
+    first: u64,
+    n: u64,
+    list: PendingList,
+    signal: LinuxSig,
+) -> Result<Fate, LxRefusal>
     ensures { Delivers (spec.settled actions.old (spec.out_of_call thread.old (regs_after again thread.old.regs first n)) shared.old (Some (list, signal))) thread.old thread.new shared.old shared.new actions.old actions.new result }
 {
     let mask = given_back(thread.mask, thread.saved_mask);
@@ -255,7 +287,14 @@ fn return_taking(again: bool, actions: &mut [Action; 64], thread: &mut LxThread,
 }
 
 /// Return, where no signal may be taken.
-fn return_quietly(again: bool, actions: &[Action; 64], thread: &mut LxThread, shared: &Pending, first: u64, n: u64) -> Result<Fate, LxRefusal>
+fn return_quietly(
+    again: bool,
+    actions: &[Action; 64],
+    thread: &mut LxThread,
+    shared: &Pending,
+    first: u64,
+    n: u64,
+) -> Result<Fate, LxRefusal>
     ensures { Delivers (spec.settled actions.now (spec.out_of_call thread.old (regs_after again thread.old.regs first n)) shared.now None) thread.old thread.new shared.now shared.now actions.now actions.now result }
 {
     let mask = given_back(thread.mask, thread.saved_mask);
@@ -269,11 +308,21 @@ fn return_quietly(again: bool, actions: &[Action; 64], thread: &mut LxThread, sh
 
 /// Return, where no signal is kept that is to be delivered: the named signal is taken, and none is named exactly where none
 /// may be taken.
-fn settle(again: bool, actions: &mut [Action; 64], thread: &mut LxThread, shared: &mut Pending, first: u64, n: u64, named: Option<Named>) -> Result<Fate, LxRefusal>
+fn settle(
+    again: bool,
+    actions: &mut [Action; 64],
+    thread: &mut LxThread,
+    shared: &mut Pending,
+    first: u64,
+    n: u64,
+    named: Option<Named>,
+) -> Result<Fate, LxRefusal>
     ensures { Delivers (spec.settled actions.old (spec.out_of_call thread.old (regs_after again thread.old.regs first n)) shared.old named) thread.old thread.new shared.old shared.new actions.old actions.new result }
 {
     match named {
-        Some((list, signal)) => return_taking(again, actions, thread, shared, first, n, list, signal),
+        Some((list, signal)) => return_taking(
+            again, actions, thread, shared, first, n, list, signal,
+        ),
         None => return_quietly(again, actions, thread, shared, first, n),
     }
 }
@@ -286,7 +335,16 @@ fn starts_again(restarts: bool, action: Action) -> bool
 }
 
 /// Return, where the kept signal is still to be delivered: it is delivered with the call's mask, and none is named.
-fn return_kept(restarts: bool, actions: &mut [Action; 64], thread: &mut LxThread, shared: &Pending, info: SigInfo, first: u64, n: u64, named: Option<Named>) -> Result<Fate, LxRefusal>
+fn return_kept(
+    restarts: bool,
+    actions: &mut [Action; 64],
+    thread: &mut LxThread,
+    shared: &Pending,
+    info: SigInfo,
+    first: u64,
+    n: u64,
+    named: Option<Named>,
+) -> Result<Fate, LxRefusal>
     ensures { Delivers (spec.kept_delivered restarts actions.old thread.old shared.now info first n named) thread.old thread.new shared.now shared.now actions.old actions.new result }
 {
     if named.is_some() {
@@ -298,12 +356,25 @@ fn return_kept(restarts: bool, actions: &mut [Action; 64], thread: &mut LxThread
 }
 
 /// Return, by the signal that ended the call's wait.
-fn return_with(restarts: bool, actions: &mut [Action; 64], thread: &mut LxThread, shared: &mut Pending, first: u64, n: u64, named: Option<Named>, kept: Option<Kept>) -> Result<Fate, LxRefusal>
+fn return_with(
+    restarts: bool,
+    actions: &mut [Action; 64],
+    thread: &mut LxThread,
+    shared: &mut Pending,
+    first: u64,
+    n: u64,
+    named: Option<Named>,
+    kept: Option<Kept>,
+) -> Result<Fate, LxRefusal>
     ensures { Delivers (spec.returned restarts actions.old thread.old shared.old first n named kept) thread.old thread.new shared.old shared.new actions.old actions.new result }
 {
     match kept {
-        Some(kept) if is_ignored(action_of(actions, kept.info.signal), kept.info.signal) => settle(restarts, actions, thread, shared, first, n, named),
-        Some(kept) => return_kept(restarts, actions, thread, shared, kept.info, first, n, named),
+        Some(kept) if is_ignored(action_of(actions, kept.info.signal), kept.info.signal) => settle(
+            restarts, actions, thread, shared, first, n, named,
+        ),
+        Some(kept) => return_kept(
+            restarts, actions, thread, shared, kept.info, first, n, named,
+        ),
         None => settle(false, actions, thread, shared, first, n, named),
     }
 }
@@ -311,7 +382,14 @@ fn return_with(restarts: bool, actions: &mut [Action; 64], thread: &mut LxThread
 /// Return, of a thread whose call is at this stage: x0 has the result, or the call starts again, which `restarts` allows. The
 /// signal that ended its wait is delivered, and then none is named; else the mask is given back, and the signal that is taken
 /// is named, and none exactly where none may be taken (signal(7)). What follows of a taken signal is answered.
-pub fn return_thread(restarts: bool, stage: Stage, actions: &mut [Action; 64], thread: &mut LxThread, shared: &mut Pending, named: Option<Named>) -> Result<Fate, LxRefusal>
+pub fn return_thread(
+    restarts: bool,
+    stage: Stage,
+    actions: &mut [Action; 64],
+    thread: &mut LxThread,
+    shared: &mut Pending,
+    named: Option<Named>,
+) -> Result<Fate, LxRefusal>
     ensures { Delivers (spec.return_thread restarts stage actions.old shared.old named thread.old) thread.old thread.new shared.old shared.new actions.old actions.new result }
 {
     let Some(call) = &thread.call else {
@@ -340,7 +418,12 @@ fn remove_from(thread: &mut LxThread, shared: &mut Pending, list: PendingList, i
 }
 
 /// Interrupt: a signal that the thread may take leaves its list, and is kept in the thread's call, whose wait it ends.
-pub fn interrupt(thread: &mut LxThread, shared: &mut Pending, list: PendingList, signal: LinuxSig) -> Result<(), LxRefusal>
+pub fn interrupt(
+    thread: &mut LxThread,
+    shared: &mut Pending,
+    list: PendingList,
+    signal: LinuxSig,
+) -> Result<(), LxRefusal>
     ensures { Interrupts (spec.interrupted thread.old shared.old list signal) thread.old thread.new shared.old shared.new result }
 {
     let Some(call) = &mut thread.call else {
@@ -388,7 +471,14 @@ fn judged(memory: &Memory, info: SigInfo) -> SigInfo
 
 /// Take, of a trapped thread by the action of its trap's signal: a signal that is blocked, ignored or at its default ends the
 /// guest; else its handler is to run.
-fn force_by(action: Action, actions: &mut [Action; 64], memory: &Memory, thread: &mut LxThread, shared: &Pending, trap: SigInfo) -> Fate
+fn force_by(
+    action: Action,
+    actions: &mut [Action; 64],
+    memory: &Memory,
+    thread: &mut LxThread,
+    shared: &Pending,
+    trap: SigInfo,
+) -> Fate
     ensures { Gives (spec.forced_by action actions.old memory.now thread.old shared.now trap) thread.new shared.now actions.new result }
 {
     if has_signal(thread.mask, trap.signal) || !has_handler(action) {
@@ -399,7 +489,14 @@ fn force_by(action: Action, actions: &mut [Action; 64], memory: &Memory, thread:
 }
 
 /// Take, of a trapped thread.
-fn force(actions: &mut [Action; 64], memory: &Memory, thread: &mut LxThread, shared: &Pending, trap: SigInfo, signal: LinuxSig) -> Result<Fate, LxRefusal>
+fn force(
+    actions: &mut [Action; 64],
+    memory: &Memory,
+    thread: &mut LxThread,
+    shared: &Pending,
+    trap: SigInfo,
+    signal: LinuxSig,
+) -> Result<Fate, LxRefusal>
     ensures { Delivers (spec.forced actions.old memory.now thread.old shared.now trap signal) thread.old thread.new shared.now shared.now actions.old actions.new result }
 {
     if trap.signal.number() != signal.number() {
@@ -418,7 +515,14 @@ fn is_user(thread: &LxThread) -> bool
 
 /// Take, of a thread: the signal of its trap, named as its own, and else a pending signal of a thread in no call (signal(7)).
 /// What follows of it is answered.
-pub fn take_thread(actions: &mut [Action; 64], memory: &Memory, thread: &mut LxThread, shared: &mut Pending, list: PendingList, signal: LinuxSig) -> Result<Fate, LxRefusal>
+pub fn take_thread(
+    actions: &mut [Action; 64],
+    memory: &Memory,
+    thread: &mut LxThread,
+    shared: &mut Pending,
+    list: PendingList,
+    signal: LinuxSig,
+) -> Result<Fate, LxRefusal>
     ensures { Delivers (spec.take_thread actions.old memory.now shared.old list signal thread.old) thread.old thread.new shared.old shared.new actions.old actions.new result }
 {
     match (thread.trap, list) {
