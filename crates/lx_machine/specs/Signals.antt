@@ -1,5 +1,5 @@
 -- MayTake, and what a signal does by default (signal(7)).
-use Rattle.std.specs.Prelude.{ℕ, ◌-◌, ◌/◌, ◌%◌, ◌^◌, ◌==◌, Bool, ◌&&◌, nat_lt, if◌then◌else◌, List, [], ◌∷◌, slice_index_or}
+use Rattle.std.specs.Prelude.{ℕ, ◌+◌, ◌-◌, ◌/◌, ◌%◌, ◌^◌, ◌==◌, Bool, ◌&&◌, nat_lt, bit_or, if◌then◌else◌, List, [], ◌∷◌, Option, Some, None, filter, slice_index_or}
 use Rattle.std.proofs.Math.Bool.{not}
 use Rattle.std.specs.List.{list_any}
 use Rattle.linux_abi.specs.LinuxSig.{signal_number, linux_bit, is_real_time}
@@ -41,3 +41,22 @@ has_unblocked mask pending = list_any (λ info. not (has_signal mask info.signal
 abbrev pub without_signal : LinuxSig → List SigInfo → List SigInfo
 without_signal s [] = []
 without_signal s (info ∷ infos) = if is_of s info then infos else (info ∷ without_signal s infos)
+
+-- the signal of this number that was sent first
+abbrev pub first_info : LinuxSig → List SigInfo → Option SigInfo
+first_info s [] = None
+first_info s (info ∷ infos) = if is_of s info then Some info else first_info s infos
+
+-- the list without any signal of this number
+abbrev pub without_all : LinuxSig → List SigInfo → List SigInfo
+without_all s infos = filter (λ info. not (is_of s info)) infos
+
+-- how many real-time signals the list has
+abbrev pub real_time_count : List SigInfo → ℕ
+real_time_count [] = 0
+real_time_count (info ∷ infos) = (if is_real_time info.signal then 1 else 0) + real_time_count infos
+
+-- the set of the signals of the list
+abbrev pub set_of : List SigInfo → ℕ
+set_of [] = 0
+set_of (info ∷ infos) = bit_or (2 ^ linux_bit info.signal) (set_of infos)

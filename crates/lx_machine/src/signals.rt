@@ -1,7 +1,7 @@
 //! Signals, their information and their actions, in Linux numbers (signal(7), sigaction(2)).
 ghost use Rattle.std.specs.Prelude.{◌≡◌, ◌≤◌, ◌<◌, ◌^◌, ◌==◌, ◌++◌, ◌∷◌, [], length, OnErr, OnOk};
 ghost use Rattle.std.specs.List.{list_any, remove};
-ghost use Rattle.lx_machine.specs.Signals.{has_signal, is_of, is_before, may_take, has_unblocked, without_signal};
+ghost use Rattle.lx_machine.specs.Signals.{has_signal, is_of, is_before, may_take, has_unblocked, without_signal, first_info, without_all, real_time_count, set_of};
 
 use crate::buffer::NoMemory;
 use crate::label::PendingList;
@@ -122,6 +122,51 @@ fn place_of(signal: LinuxSig, infos: &[SigInfo]) -> usize
     }
 }
 
+/// The first signal of this kind.
+fn first_of(signal: LinuxSig, infos: &[SigInfo]) -> Option<SigInfo>
+    ensures { result ≡ first_info signal infos.now }
+{
+    match infos {
+        [] => None,
+        [info, rest @ ..] => {
+            if is_of(signal, *info) {
+                Some(*info)
+            } else {
+                first_of(signal, rest)
+            }
+        }
+    }
+}
+
+/// How many of them are real-time signals.
+fn count_real_time(infos: &[SigInfo]) -> usize
+    requires { length infos.now < 2 ^ 63 }
+    ensures value { result ≡ real_time_count infos.now }
+    ensures most { result ≤ length infos.now }
+{
+    match infos {
+        [] => 0,
+        [info, rest @ ..] => usize::from(info.signal.is_real_time()) + count_real_time(rest),
+    }
+}
+
+/// The set of them.
+fn bits_of(infos: &[SigInfo]) -> u64
+    ensures { result ≡ set_of infos.now }
+{
+    match infos {
+        [] => 0,
+        [info, rest @ ..] => info.signal.bit() | bits_of(rest),
+    }
+}
+
+/// Lets all signals of this kind go.
+fn remove_each(signal: LinuxSig, infos: &mut ArrayVec<SigInfo, MOST_PENDING>)
+    ensures { infos.new.items ≡ without_all signal infos.old.items }
+{
+    infos.retain(|info| info.signal.number() != signal.number());
+}
+
 impl Pending {
     /// No signals. Takes no memory.
     pub fn empty() -> Pending
@@ -192,5 +237,34 @@ impl Pending {
         if at < self.infos.len() {
             self.infos.remove(at);
         }
+    }
+
+    /// The first signal of this kind, if there is one.
+    pub fn first(&self, signal: LinuxSig) -> Option<SigInfo>
+        ensures { result ≡ first_info signal self.now }
+    {
+        first_of(signal, &self.infos)
+    }
+
+    /// No signal of this kind is pending any more.
+    pub fn remove_all(&mut self, signal: LinuxSig)
+        ensures { self.new ≡ without_all signal self.old }
+    {
+        remove_each(signal, &mut self.infos);
+    }
+
+    /// How many real-time signals are pending.
+    pub fn real_time_count(&self) -> usize
+        ensures value { result ≡ real_time_count self.now }
+        ensures most { result ≤ MOST_PENDING }
+    {
+        count_real_time(&self.infos)
+    }
+
+    /// The set of the pending signals, signal n as bit n - 1.
+    pub fn bits(&self) -> u64
+        ensures { result ≡ set_of self.now }
+    {
+        bits_of(&self.infos)
     }
 }
