@@ -33,7 +33,7 @@ use Rattle.lx_machine.specs.declared.signals.Origin.TheVariants.{Sender}
 use Rattle.lx_machine.specs.declared.refusal.LxRefusal.{LxRefusal}
 use Rattle.lx_machine.specs.declared.refusal.LxRefusal.TheVariants.{NoStep, NoMemory}
 use Rattle.lx_machine.specs.declared.threads.LxThread.{LxThread}
-use Rattle.lx_calls.specs.Files.{has_reader, has_writer, with_hold, given_back}
+use Rattle.lx_files.specs.Files.{has_reader, has_writer, with_hold, given_back}
 
 -- what a step of a transfer leaves of the files, how the call stands then, and whether its thread gets SIGPIPE
 pub record Outcome : Type 0 where

@@ -1,9 +1,7 @@
 //! What the calls of the Linux machine do: the plain functions that compute the effects of `specs/`.
 #![tactic(auto)]
 
-pub mod descriptors;
 pub mod entry;
-pub mod files;
 pub mod memory_calls;
 pub mod process_calls;
 pub mod reads;

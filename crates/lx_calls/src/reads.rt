@@ -5,10 +5,10 @@ ghost use Rattle.lx_machine.specs.Lists.{bind, at_place};
 ghost use Rattle.lx_machine.specs.Pieces.{total};
 ghost use Rattle.std.specs.Option.{option_map};
 ghost use Rattle.lx_machine.specs.declared.files.FileKind.TheVariants as kind;
-ghost use Rattle.lx_calls.specs.Files.{held_in};
+ghost use Rattle.lx_files.specs.Files.{held_in};
 ghost use Rattle.lx_calls.specs.Transfers.{outcome, reads_bytes, read_pipe, counted, counted_down, with_counter, read_counter, read_move, Makes};
 
-use crate::files::{has_writer, place_at, set_place};
+use lx_files::files::{has_writer, place_at, set_place};
 use crate::transfers::{end_refused, end_with, finish, wait};
 use byteorder::{ByteOrder, LittleEndian};
 use linux_abi::LinuxErrno;

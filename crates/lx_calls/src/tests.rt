@@ -1,6 +1,6 @@
 // Whole runs of calls, where memory is ample: no clause says that it is.
 
-use crate::descriptors::{eventfd2, pipe2};
+use lx_files::descriptors::{eventfd2, pipe2};
 use crate::entry::enter;
 use crate::memory_calls::{brk, mmap, munmap};
 use crate::process_calls::uname;

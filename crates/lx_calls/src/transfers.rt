@@ -2,7 +2,7 @@
 ghost use Rattle.std.specs.Prelude.{◌≡◌, false, Some, None, OnErr, OnOk};
 ghost use Rattle.lx_calls.specs.Transfers.{outcome, is_read, direction_refusal, hold_file, held, lets_go, dropped, waits, ends_with, ends_refused, move_file, moved, Makes, has_room_for_broken_pipe, with_broken_pipe};
 
-use crate::files::{give_back, hold_once, place_at};
+use lx_files::files::{give_back, hold_once, place_at};
 use crate::reads::read_move;
 use crate::writes::write_move;
 use linux_abi::{Call, LinuxErrno, LinuxSig};

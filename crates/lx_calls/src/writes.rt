@@ -3,10 +3,10 @@ ghost use Rattle.std.specs.Prelude.{◌≡◌, ◌≤◌, ◌<◌, ◌+◌, ◌-
 ghost use Rattle.lx_machine.specs.Lists.{bind, at_place};
 ghost use Rattle.std.specs.Option.{option_map};
 ghost use Rattle.lx_machine.specs.declared.files.FileKind.TheVariants as kind;
-ghost use Rattle.lx_calls.specs.Files.{held_in};
+ghost use Rattle.lx_files.specs.Files.{held_in};
 ghost use Rattle.lx_calls.specs.Transfers.{outcome, waits, ends_with, with_counter, console_holds, count, goes_in, wrote, write_waits, breaks, write_pipe, into_console, write_console, write_counter, write_move, Makes};
 
-use crate::files::{has_reader, place_at, set_place};
+use lx_files::files::{has_reader, place_at, set_place};
 use crate::transfers::{end_refused, end_with, finish, wait};
 use crate::vectors::number;
 use linux_abi::{LinuxErrno, answer};

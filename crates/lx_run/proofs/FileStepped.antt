@@ -12,7 +12,7 @@ use Rattle.lx_machine.specs.declared.calls.LxCall.{LxCall}
 use Rattle.lx_machine.specs.declared.calls.Stage.{Stage}
 use Rattle.lx_machine.specs.declared.calls.Stage.TheVariants as stage
 use Rattle.lx_machine.specs.declared.threads.LxThread.{LxThread}
-use Rattle.lx_calls.specs.Descriptors as descriptors
+use Rattle.lx_files.specs.Descriptors as descriptors
 use Rattle.lx_calls.specs.Shape.{stage_of}
 use Rattle.lx_calls.specs.Table.{effects, on_files}
 use Rattle.lx_calls.specs.Transfers.{Outcome, on_transfer}

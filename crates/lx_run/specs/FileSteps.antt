@@ -15,7 +15,7 @@ use Rattle.lx_machine.specs.declared.calls.Stage.TheVariants as stage
 use Rattle.lx_machine.specs.declared.threads.LxThread.{LxThread}
 use Rattle.lx_machine.specs.declared.refusal.LxRefusal.{LxRefusal}
 use Rattle.lx_machine.specs.declared.refusal.LxRefusal.TheVariants.{NoStep, NoMemory}
-use Rattle.lx_calls.specs.Descriptors as descriptors
+use Rattle.lx_files.specs.Descriptors as descriptors
 use Rattle.lx_calls.specs.Shape.{stage_of}
 use Rattle.lx_calls.specs.Table.{on_files}
 use Rattle.lx_calls.specs.Transfers.{Outcome, held, dropped, moved, with_broken_pipe}

@@ -4,7 +4,7 @@ ghost use Rattle.std.specs.Option.{option_map};
 ghost use Rattle.linux_abi.specs.Call.{call_of};
 ghost use Rattle.lx_machine.specs.Step as step;
 ghost use Rattle.lx_machine.specs.Step.{in_call};
-ghost use Rattle.lx_calls.specs.Descriptors as descriptors;
+ghost use Rattle.lx_files.specs.Descriptors as descriptors;
 ghost use Rattle.lx_calls.specs.Shape.{stage_of};
 ghost use Rattle.lx_calls.specs.Table.{effects};
 ghost use Rattle.lx_calls.specs.Transfers.{Makes, has_room_for_broken_pipe, with_broken_pipe};
@@ -12,7 +12,7 @@ ghost use Rattle.lx_run.specs.FileSteps.{files_call, file_effect, unbroken, hold
 ghost use Rattle.lx_run.specs.Steps.{Steps};
 
 use linux_abi::Call;
-use lx_calls::descriptors::{close, dup, dup3, eventfd2, fcntl, ioctl, lseek, pipe2};
+use lx_files::descriptors::{close, dup, dup3, eventfd2, fcntl, ioctl, lseek, pipe2};
 use lx_calls::shape::stage_of;
 use lx_calls::transfers;
 use lx_machine::calls::{LxCall, Stage};

@@ -2,7 +2,7 @@
 ghost use Rattle.std.specs.Prelude.{◌≡◌, ◌<◌, ◌+◌, ◌^◌, ◌≤◌, drop, length, slice_set, IfSome, OnErr, OnOk};
 ghost use Rattle.std.specs.List.{list_any};
 ghost use Rattle.lx_machine.specs.Lists.{at_place, without_place, first_free, first_free_from};
-ghost use Rattle.lx_calls.specs.Files.{names, is_unnamed, is_read_end, is_write_end, is_open_as, has_reader, has_writer, without_pipe, after_end_of, without_file, ended_if_unnamed, settled, held_once_more, held_once_less, with_hold, given_back, with_descriptor, closed, with_file};
+ghost use Rattle.lx_files.specs.Files.{names, is_unnamed, is_read_end, is_write_end, is_open_as, has_reader, has_writer, without_pipe, after_end_of, without_file, ended_if_unnamed, settled, held_once_more, held_once_less, with_hold, given_back, with_descriptor, closed, with_file};
 
 use lx_machine::buffer::NoMemory;
 use lx_machine::files::{Descriptor, FileKind, Files, OpenFile};

@@ -5,8 +5,8 @@ ghost use Rattle.lx_machine.specs.Pieces.{piece};
 ghost use Rattle.lx_machine.specs.declared.calls.LxCall.{LxCall};
 ghost use Rattle.lx_machine.specs.Lists.{at_place};
 ghost use Rattle.lx_machine.specs.Calls.{argument, low_argument};
-ghost use Rattle.lx_calls.specs.Files.{descriptor, with_descriptor, with_file};
-ghost use Rattle.lx_calls.specs.Descriptors.{outcome, answers, refuses, has_cloexec, has_nonblock, has_semaphore, lowest_from, counter_at, eventfd_at, eventfd2, duplicate_at, duplicate, dup, dup3_to, dup3_of, dup3, access_mode, status_of, get_status, set_status, fcntl, refused_where_open, ioctl, lseek, close, second_free, pipe_at, pipe_from, pipe2};
+ghost use Rattle.lx_files.specs.Files.{descriptor, with_descriptor, with_file};
+ghost use Rattle.lx_files.specs.Descriptors.{outcome, answers, refuses, has_cloexec, has_nonblock, has_semaphore, lowest_from, counter_at, eventfd_at, eventfd2, duplicate_at, duplicate, dup, dup3_to, dup3_of, dup3, access_mode, status_of, get_status, set_status, fcntl, refused_where_open, ioctl, lseek, close, second_free, pipe_at, pipe_from, pipe2};
 
 use crate::files::{
     add_file, close_descriptor, first_free, next_free, place_at, set_descriptor, set_place,

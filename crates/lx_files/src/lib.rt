@@ -1,0 +1,5 @@
+//! Descriptors and open files of the Linux machine, the calls on them, and epolls.
+#![tactic(auto)]
+
+pub mod descriptors;
+pub mod files;
