@@ -1,9 +1,11 @@
 -- The interests of an epoll, and how they change. An interest is named by its open file and the descriptor for which it was
 -- added. Source: epoll(7), epoll_ctl(2).
-use Rattle.std.specs.Prelude.{ℕ, ◌/◌, ◌%◌, ◌^◌, ◌==◌, Bool, true, false, ◌&&◌, if◌then◌else◌, List, map, filter, Option, Some, None}
+use Rattle.std.specs.Prelude.{ℕ, ◌/◌, ◌%◌, ◌^◌, ◌==◌, Bool, true, false, ◌&&◌, if◌then◌else◌, List, map, filter, drop, Option, Some, None}
 use Rattle.std.proofs.Math.Bool.{not}
 use Rattle.std.specs.List.{list_any}
+use Rattle.std.specs.Option.{option_map}
 use Rattle.lx_machine.specs.Lists.{at_place}
+use Rattle.lx_machine.specs.declared.files.Files.{Files}
 use Rattle.lx_machine.specs.declared.files.FileKind.{FileKind}
 use Rattle.lx_machine.specs.declared.files.FileKind.TheVariants as kind
 use Rattle.lx_machine.specs.declared.files.Interest.{Interest}
@@ -94,3 +96,26 @@ if_armed k files i = if is_open_of k (at_place files i.file) then record i { arm
 
 abbrev pub armed_for : FileKind → List (Option OpenFile) → List Interest → List Interest
 armed_for k files is = map (if_armed k files) is
+
+-- ---- all epolls
+
+-- the interests whose open file is this are armed, in every epoll
+abbrev pub armed_on : FileKind → Files → Files
+armed_on k F = record F { epolls = map (option_map (armed_for k F.files)) F.epolls }
+
+-- the interests in this open file are gone from every epoll
+abbrev pub without_interests : ℕ → Files → Files
+without_interests file F = record F { epolls = map (option_map (without_those_in file)) F.epolls }
+
+-- what a console room holds
+abbrev pub side_holds : Files → LxSide → List ℕ
+side_holds F side.Out = F.out
+side_holds F side.Err = F.err
+
+abbrev pub without_first_of : Files → LxSide → ℕ → Files
+without_first_of F side.Out n = record F { out = drop n F.out }
+without_first_of F side.Err n = record F { err = drop n F.err }
+
+-- Drain: the first n bytes of a console room are gone, which counts as a read of the room
+abbrev pub drained_side : Files → LxSide → ℕ → Files
+drained_side F which n = armed_on (kind.Console which) (without_first_of F which n)
