@@ -12,6 +12,7 @@ use Rattle.linux_abi.specs.declared.errno.LinuxErrno.{LinuxErrno}
 use Rattle.linux_abi.specs.declared.errno.LinuxErrno.TheVariants as errno
 use Rattle.linux_abi.specs.declared.signals.LinuxSig.TheVariants as signal
 use Rattle.lx_machine.specs.Lists.{bind, at_place, with_place}
+use Rattle.lx_machine.specs.Interests.{armed_on}
 use Rattle.lx_machine.specs.Pieces.{total}
 use Rattle.lx_machine.specs.Calls.{low_argument, answered, answered_with, refused}
 use Rattle.lx_machine.specs.Signals.{is_of}
@@ -114,16 +115,21 @@ waits F c file f = if f.nonblocking then ends_refused F c file errno.EAGAIN else
 
 -- ---- reads
 
+-- a pipe with these bytes
+abbrev pub with_pipe : Files → ℕ → List ℕ → Files
+with_pipe F p bytes = record F { pipes = with_place F.pipes p bytes }
+
 -- a read that ends with these bytes, which are then stored
 abbrev pub reads_bytes : Files → LxCall → ℕ → List ℕ → Option Outcome
 reads_bytes F c file bytes = Some (lets_go F (answered_with c (length bytes) c.pieces bytes) file)
 
--- a read from a pipe that holds these bytes: none held is the end where no writer is left
+-- a read from a pipe that holds these bytes, which arms the interests in its write end: none held is the end where no
+-- writer is left
 abbrev pub read_pipe : Files → LxCall → ℕ → OpenFile → ℕ → List ℕ → Option Outcome
 read_pipe F c file f p [] = if has_writer F p then waits F c file f else ends_with F c file 0
 read_pipe F c file f p (b ∷ bs) =
     let most = total c.pieces in
-    reads_bytes (record F { pipes = with_place F.pipes p (drop most (b ∷ bs)) }) c file (take most (b ∷ bs))
+    reads_bytes (armed_on (kind.PipeWrite p) (with_pipe F p (drop most (b ∷ bs)))) c file (take most (b ∷ bs))
 
 -- a read from the input
 abbrev pub read_input : Files → LxCall → ℕ → Option Outcome
@@ -138,8 +144,9 @@ counted n = if n.semaphore then 1 else n.value
 abbrev pub counted_down : Counter → Counter
 counted_down n = record n { value = n.value - counted n }
 
+-- a counter after a read or a write, which arms the interests in it
 abbrev pub with_counter : Files → ℕ → Counter → Files
-with_counter F number n = record F { counters = with_place F.counters number n }
+with_counter F number n = armed_on (kind.Counter number) (record F { counters = with_place F.counters number n })
 
 abbrev pub read_counter : Files → LxCall → ℕ → OpenFile → ℕ → Counter → Option Outcome
 read_counter F c file f number n =
@@ -178,19 +185,16 @@ wrote F c file f n =
 abbrev pub write_waits : Files → LxCall → ℕ → OpenFile → Option Outcome
 write_waits F c file f = if f.nonblocking && nat_lt 0 c.moved then ends_with F c file c.moved else waits F c file f
 
--- a pipe with these bytes
-abbrev pub with_pipe : Files → ℕ → List ℕ → Files
-with_pipe F p bytes = record F { pipes = with_place F.pipes p bytes }
-
 -- a write to a pipe without a reader: its thread gets SIGPIPE
 abbrev pub breaks : Files → LxCall → ℕ → Option Outcome
 breaks F c file = Some (record (lets_go F (answered c (if nat_lt 0 c.moved then c.moved else answer_of errno.EPIPE)) file) { is_broken = true })
 
+-- a write to a pipe arms the interests in its read end
 abbrev pub write_pipe : Files → LxCall → ℕ → OpenFile → ℕ → List ℕ → Option Outcome
 write_pipe F c file f p holds =
     let n = goes_in c (length holds) in
     if not (has_reader F p) then breaks F c file else (
-    if n == 0 then write_waits F c file f else wrote (with_pipe F p (holds ++ take n c.bytes)) c file f n)
+    if n == 0 then write_waits F c file f else wrote (armed_on (kind.PipeRead p) (with_pipe F p (holds ++ take n c.bytes))) c file f n)
 
 -- a console room is a pipe whose reader stays; what has ever been put into it is kept too
 abbrev pub into_console : Files → LxSide → List ℕ → Files

@@ -1,14 +1,15 @@
 //! The steps of read(2), write(2), readv(2) and writev(2) that hold an open file, give it back, and move bytes.
 ghost use Rattle.std.specs.Prelude.{◌≡◌, false, Some, None, OnErr, OnOk};
-ghost use Rattle.lx_calls.specs.Transfers.{outcome, is_read, direction_refusal, hold_file, held, lets_go, dropped, waits, ends_with, ends_refused, move_file, moved, Makes, has_room_for_broken_pipe, with_broken_pipe};
+ghost use Rattle.lx_calls.specs.Transfers.{outcome, is_read, direction_refusal, hold_file, held, lets_go, dropped, with_counter, waits, ends_with, ends_refused, move_file, moved, Makes, has_room_for_broken_pipe, with_broken_pipe};
 
-use lx_files::files::{give_back, hold_once, place_at};
 use crate::reads::read_move;
 use crate::writes::write_move;
 use linux_abi::{Call, LinuxErrno, LinuxSig};
+use lx_files::files::{give_back, hold_once, place_at, set_place};
 use lx_machine::buffer::NoMemory;
 use lx_machine::calls::LxCall;
-use lx_machine::files::{FileKind, Files, OpenFile};
+use lx_machine::epolls::arm_on;
+use lx_machine::files::{Counter, FileKind, Files, OpenFile};
 use lx_machine::refusal::LxRefusal;
 use lx_machine::signals::{Origin, Pending, SigInfo};
 use std::alloc::Global;
@@ -92,6 +93,14 @@ pub fn let_go(files: &mut Files, call: &mut LxCall) -> Result<(), LxRefusal>
         }
         None => Err(LxRefusal::NoStep),
     }
+}
+
+/// A counter after a read or a write, which arms the interests in it.
+pub(crate) fn set_counter(files: &mut Files, number: u32, counter: Counter)
+    ensures { files.new ≡ with_counter files.old number counter }
+{
+    set_place(&mut files.counters, number, Some(counter));
+    arm_on(files, FileKind::Counter(number));
 }
 
 /// A move that ends with this number.

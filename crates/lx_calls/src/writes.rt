@@ -6,12 +6,13 @@ ghost use Rattle.lx_machine.specs.declared.files.FileKind.TheVariants as kind;
 ghost use Rattle.lx_files.specs.Files.{held_in};
 ghost use Rattle.lx_calls.specs.Transfers.{outcome, waits, ends_with, with_counter, console_holds, count, goes_in, wrote, write_waits, breaks, write_pipe, into_console, write_console, write_counter, write_move, Makes};
 
-use lx_files::files::{has_reader, place_at, set_place};
-use crate::transfers::{end_refused, end_with, finish, wait};
+use crate::transfers::{end_refused, end_with, finish, set_counter, wait};
 use crate::vectors::number;
 use linux_abi::{LinuxErrno, answer};
+use lx_files::files::{has_reader, place_at};
 use lx_machine::buffer::{Bytes, NoMemory, ROOM, Room};
 use lx_machine::calls::LxCall;
+use lx_machine::epolls::arm_on;
 use lx_machine::files::{Counter, FileKind, Files, OpenFile};
 use lx_machine::label::LxSide;
 use lx_machine::refusal::LxRefusal;
@@ -140,6 +141,7 @@ fn write_to_pipe(
     }
     let moved = moved_with(call, n)?;
     put_into_pipe(&mut files.pipes, pipe, &call.bytes.as_slice()[..n]);
+    arm_on(files, FileKind::PipeRead(pipe));
     wrote(files, call, file, f, n, moved);
     Ok(false)
 }
@@ -252,7 +254,7 @@ fn add_to_counter(
                 value,
                 semaphore: counter.semaphore,
             };
-            set_place(&mut files.counters, number, Some(more));
+            set_counter(files, number, more);
             end_with(files, call, file, 8);
             Ok(false)
         }
