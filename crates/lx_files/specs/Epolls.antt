@@ -121,7 +121,7 @@ is_answer F is most picks =
 -- the event of an interest: its bits, 4 bytes that aren't used, and its data
 abbrev pub event_of : Files → Option Interest → List ℕ
 event_of F None = []
-event_of F (Some i) = bytes_of (reported F i) 4 ++ bytes_of 0 4 ++ bytes_of i.data 8
+event_of F (Some i) = bytes_of (reported F i) 4 ++ bytes_of 0 4 ++ bytes_of i.«data» 8
 
 abbrev pub events : Files → List Interest → List Pick → List ℕ
 events F is [] = []
@@ -199,12 +199,15 @@ abbrev pub interests_of : Files → Option ℕ → List Interest
 interests_of F None = []
 interests_of F (Some n) = interests_in (at_place F.epolls n)
 
--- the bits and the data of the event that was fetched
+-- the bits and the data of the event that was fetched, and 0 where none was
+abbrev pub fetched_number : List ℕ → ℕ → ℕ → ℕ
+fetched_number bytes at len = if nat_lt (length bytes) 16 then 0 else number_at bytes at len
+
 abbrev pub asked_of : LxCall → ℕ
-asked_of c = number_at c.bytes 0 4
+asked_of c = fetched_number c.bytes 0 4
 
 abbrev pub data_of : LxCall → ℕ
-data_of c = number_at c.bytes 8 8
+data_of c = fetched_number c.bytes 8 8
 
 -- EPOLLEXCLUSIVE
 abbrev pub is_exclusive : ℕ → Bool
@@ -237,10 +240,15 @@ interest_refusals is file c =
     (adds && nat_le 512 (length is), errno.ENOSPC) ∷
     (not adds && not stood, errno.ENOENT) ∷ []
 
--- what refuses the change, in this order
-abbrev pub control_refusals : Files → LxCall → List (Bool × LinuxErrno)
-control_refusals F c =
-    descriptor_refusals F c ++ interest_refusals (interests_of F (epoll_of F (low_argument c 0))) (file_of F (low_argument c 2)) c
+abbrev pub or_else : Option LinuxErrno → Option LinuxErrno → Option LinuxErrno
+or_else (Some e) next = Some e
+or_else None next = next
+
+-- what refuses the change: first what its descriptors are, and then what its interests are
+abbrev pub control_refusal : Files → LxCall → Option LinuxErrno
+control_refusal F c =
+    or_else (first_refusal (descriptor_refusals F c))
+    (first_refusal (interest_refusals (interests_of F (epoll_of F (low_argument c 0))) (file_of F (low_argument c 2)) c))
 
 -- the interest that an add or a change makes: armed where it has something to report
 abbrev pub new_interest : Files → LxCall → ℕ → Interest
@@ -248,7 +256,7 @@ new_interest F c file = record {
   descriptor = low_argument c 2;
   file = file;
   asked = asked_of c;
-  data = data_of c;
+  «data» = data_of c;
   armed = not (told F file (asked_of c) == 0);
   enabled = true;
 }
@@ -272,7 +280,7 @@ epoll_ctl_unless F c (Some e) = refuses F c e
 epoll_ctl_unless F c None = answers (control F c (epoll_of F (low_argument c 0)) (file_of F (low_argument c 2))) c 0
 
 abbrev pub epoll_ctl : Files → LxCall → Outcome
-epoll_ctl F c = epoll_ctl_unless F c (first_refusal (control_refusals F c))
+epoll_ctl F c = epoll_ctl_unless F c (control_refusal F c)
 
 -- ---- epoll_pwait: refusals at entry, pieces and stages
 

@@ -20,7 +20,7 @@ use lx_machine::files::{Counter, DESCRIPTORS, Descriptor, FileKind, Files, OpenF
 use std::alloc::Global;
 
 /// Whether a new descriptor is to have its close flag set (O_CLOEXEC).
-fn has_cloexec(flags: u64) -> bool
+pub(crate) fn has_cloexec(flags: u64) -> bool
     ensures { result ≡ has_cloexec flags }
 {
     flags / O_CLOEXEC % 2 == 1
@@ -49,7 +49,7 @@ fn flags(call: &LxCall, at: usize) -> u64
 }
 
 /// The descriptor that an argument names, if it is open.
-fn named(files: &Files, call: &LxCall, at: usize) -> Option<Descriptor>
+pub(crate) fn named(files: &Files, call: &LxCall, at: usize) -> Option<Descriptor>
     requires { at < 6 }
     ensures { result ≡ at_place files.now.descriptors (low_argument call.now at) }
 {
@@ -57,7 +57,7 @@ fn named(files: &Files, call: &LxCall, at: usize) -> Option<Descriptor>
 }
 
 /// The lowest free descriptor from this number on.
-fn lowest_from(files: &Files, from: u32) -> Option<u32>
+pub(crate) fn lowest_from(files: &Files, from: u32) -> Option<u32>
     requires { from ≤ 256 }
     ensures { result ≡ lowest_from files.now from }
 {

@@ -2,4 +2,6 @@
 #![tactic(auto)]
 
 pub mod descriptors;
+pub mod epoll_calls;
+pub mod epolls;
 pub mod files;
