@@ -1,5 +1,5 @@
 -- read, write, readv and writev: Hold, Drop and Move. Source: read(2), write(2), readv(2), pipe(7), eventfd(2).
-use Rattle.std.specs.Prelude.{◌≡◌, ℕ, ◌+◌, ◌-◌, ◌^◌, ◌==◌, Bool, true, false, ◌&&◌, ◌||◌, nat_lt, nat_le, min, if◌then◌else◌, List, [], ◌∷◌, ◌++◌, length, take, drop, Option, Some, None, Result, Ok, Err, pos}
+use Rattle.std.specs.Prelude.{◌≡◌, ℕ, ◌+◌, ◌-◌, ◌^◌, ◌==◌, Bool, true, false, ◌&&◌, ◌||◌, nat_lt, nat_le, min, if◌then◌else◌, List, [], ◌∷◌, ◌++◌, length, take, drop, Option, Some, None, is_some, Result, Ok, Err, pos}
 use Rattle.std.proofs.Math.Bool.{not}
 use Rattle.std.specs.List.{list_any}
 use Rattle.std.specs.Option.{option_map}
@@ -231,6 +231,24 @@ move_file F c file f = if is_read c then read_move F c file f f.kind else write_
 
 abbrev pub moved : Files → LxCall → Option Outcome
 moved F c = bind c.held (λ file. bind (at_place F.files file) (move_file F c file))
+
+-- Move has a step
+abbrev pub can_move : Files → LxCall → Bool
+can_move F c = is_some (moved F c)
+
+-- ---- Interrupt
+
+-- what a transfer answers that a signal ends: what it has moved before, and else EINTR
+abbrev pub interrupted_answer : LxCall → ℕ
+interrupted_answer c = if nat_lt 0 c.moved then c.moved else answer_of errno.EINTR
+
+-- the wait of a transfer ends by a signal, and the hold is given back
+abbrev pub interrupted : Files → LxCall → Option Outcome
+interrupted F c = bind c.held (λ file. ends_with F c file (interrupted_answer c))
+
+-- a transfer that has moved nothing may start again after that
+abbrev pub may_restart : LxCall → Bool
+may_restart c = c.moved == 0
 
 -- a function that computes a step of a transfer, and tells whether its thread gets SIGPIPE: it leaves what the step leaves.
 -- Where there is no such step, or memory is wanting, nothing changes

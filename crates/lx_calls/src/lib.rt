@@ -4,6 +4,7 @@
 pub mod entry;
 pub mod memory_calls;
 pub mod process_calls;
+pub mod readiness;
 pub mod reads;
 pub mod shape;
 #[cfg(test)]

@@ -21,7 +21,7 @@ use std::alloc::Global;
 
 /// The lengths of the pieces together, as far as they are counted.
 #[tactic(auto, using(std::proofs::lemmas::List::drop_all))]
-fn total(pieces: &[Piece]) -> u64
+pub(crate) fn total(pieces: &[Piece]) -> u64
     ensures { result ≡ min (total pieces.now) (2 ^ 64 - 1) }
 {
     let mut sum = 0u64;

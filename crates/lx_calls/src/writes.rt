@@ -21,7 +21,7 @@ use lx_machine::refusal::LxRefusal;
 const PIPE_BUF: u64 = 4096;
 
 /// Whether a write is of at most so many bytes in all.
-fn is_at_most(call: &LxCall, most: u64) -> bool
+pub(crate) fn is_at_most(call: &LxCall, most: u64) -> bool
     ensures { result ≡ nat_le (count call.now) most }
 {
     let left = call.bytes.as_slice().len() as u64;
@@ -29,7 +29,7 @@ fn is_at_most(call: &LxCall, most: u64) -> bool
 }
 
 /// How many bytes now go into a room.
-fn goes_in(call: &LxCall, room: &Room) -> usize
+pub(crate) fn goes_in(call: &LxCall, room: &Room) -> usize
     ensures value { result ≡ goes_in call.now (length room.now) }
     ensures fits { 0 < result → length room.now + result ≤ 65536 }
     ensures most { result ≤ length call.now.bytes }
@@ -176,7 +176,7 @@ fn put(room: &mut Room, ever: &mut Bytes, bytes: &[u8]) -> Result<(), NoMemory>
 }
 
 /// How many bytes now go into a console.
-fn goes_into_console(files: &Files, call: &LxCall, which: LxSide) -> usize
+pub(crate) fn goes_into_console(files: &Files, call: &LxCall, which: LxSide) -> usize
     ensures value { result ≡ goes_in call.now (length (console_holds files.now which)) }
     ensures fits { 0 < result → length (console_holds files.now which) + result ≤ 65536 }
     ensures most { result ≤ length call.now.bytes }

@@ -1,6 +1,6 @@
 -- Ready, Due and Answer; the calls that make, change and wait for epolls. An interest is named by its open file and the
 -- descriptor for which it was added. Source: epoll(7), epoll_create1(2), epoll_ctl(2), epoll_wait(2).
-use Rattle.std.specs.Prelude.{ℕ, ◌+◌, ◌-◌, ◌*◌, ◌/◌, ◌%◌, ◌^◌, ◌==◌, Bool, true, false, ◌&&◌, ◌||◌, nat_lt, nat_le, min, bit_and, bit_or, if◌then◌else◌, List, [], ◌∷◌, ◌++◌, length, slice_set, Option, Some, None, is_some}
+use Rattle.std.specs.Prelude.{◌≡◌, Result, Ok, Err, ℕ, ◌+◌, ◌-◌, ◌*◌, ◌/◌, ◌%◌, ◌^◌, ◌==◌, Bool, true, false, ◌&&◌, ◌||◌, nat_lt, nat_le, min, bit_and, bit_or, if◌then◌else◌, List, [], ◌∷◌, ◌++◌, length, slice_set, Option, Some, None, is_some}
 use Rattle.std.proofs.Math.Bool.{not}
 use Rattle.std.specs.List.{list_any}
 use Rattle.std.specs.Option.{option_map}
@@ -26,6 +26,8 @@ use Rattle.lx_machine.specs.declared.files.Files.{Files}
 use Rattle.lx_machine.specs.declared.files.Interest.{Interest}
 use Rattle.lx_machine.specs.declared.files.OpenFile.{OpenFile}
 use Rattle.lx_machine.specs.declared.label.Pick.{Pick}
+use Rattle.lx_machine.specs.declared.refusal.LxRefusal.{LxRefusal}
+use Rattle.lx_machine.specs.declared.refusal.LxRefusal.TheVariants.{NoStep, NoMemory}
 use Rattle.lx_files.specs.Files.{descriptor, has_reader, has_writer, held_in, with_descriptor, with_file, with_hold, given_back}
 use Rattle.lx_files.specs.Descriptors.{Outcome, outcome, answers, refuses, has_cloexec, lowest_from}
 
@@ -363,6 +365,13 @@ reports_of F c picks file n = bind (at_place F.epolls n) (reports_if F c picks f
 -- Move of an epoll, which reports these picks where they are an answer
 abbrev pub epoll_moved : Files → LxCall → List Pick → Option Outcome
 epoll_moved F c picks = bind c.held (λ file. bind (held_epoll F c) (reports_of F c picks file))
+
+-- a function that computes a step on files: it leaves what the step leaves. Where there is no such step, or memory is
+-- wanting, nothing changes
+abbrev pub Makes : Option Outcome → Files → LxCall → Files → LxCall → Result (Unit {0}) LxRefusal → Type 0
+Makes step F c new_files new_call (Ok done) = step ≡ Some (outcome new_files new_call)
+Makes step F c new_files new_call (Err NoStep) = (step ≡ None) × (new_files ≡ F) × (new_call ≡ c)
+Makes step F c new_files new_call (Err NoMemory) = (new_files ≡ F) × (new_call ≡ c)
 
 -- Move has an answer: some interest is due
 abbrev pub epoll_can_move : Files → LxCall → Bool

@@ -8,7 +8,7 @@ ghost use Rattle.lx_machine.specs.Calls.{argument, low_argument, answered, refus
 ghost use Rattle.lx_machine.specs.Interests.{after_report, stands, changed, without_interest};
 ghost use Rattle.lx_files.specs.Files.{descriptor, with_hold, given_back};
 ghost use Rattle.lx_files.specs.Descriptors.{outcome, refuses, has_cloexec};
-ghost use Rattle.lx_files.specs.Epolls.{epoll_create_refusals, epoll_create_at, epoll_create_numbers, epoll_create1, control_of, epoll_ctl_refusals, event_pieces, epoll_ctl_pieces, epoll_ctl_stage_of, epoll_ctl_stage, kind_of, epoll_number, epoll_of, file_of, interests_in, interests_of, asked_of, data_of, fetched_number, is_exclusive, is_add, stands_in, descriptor_refusals, interest_refusals, or_else, control_refusal, new_interest, controlled, on_epoll, control, epoll_ctl_unless, epoll_ctl, is_not_positive, epoll_pwait_refusals, epoll_pwait_pieces, has_timeout, epoll_pwait_clock, epoll_pwait_held, epoll_pwait_stage, with_timeout, hold_epoll, epoll_held_file, epoll_held, lets_epoll_go, held_epoll, reports, reports_if, reports_of, epoll_moved, epoll_can_move, epoll_expired, epoll_interrupted};
+ghost use Rattle.lx_files.specs.Epolls.{epoll_create_refusals, epoll_create_at, epoll_create_numbers, epoll_create1, control_of, epoll_ctl_refusals, event_pieces, epoll_ctl_pieces, epoll_ctl_stage_of, epoll_ctl_stage, kind_of, epoll_number, epoll_of, file_of, interests_in, interests_of, asked_of, data_of, fetched_number, is_exclusive, is_add, stands_in, descriptor_refusals, interest_refusals, or_else, control_refusal, new_interest, controlled, on_epoll, control, epoll_ctl_unless, epoll_ctl, is_not_positive, epoll_pwait_refusals, epoll_pwait_pieces, has_timeout, epoll_pwait_clock, epoll_pwait_held, epoll_pwait_stage, with_timeout, hold_epoll, epoll_held_file, epoll_held, lets_epoll_go, held_epoll, most_of, events, is_answer, reports, reports_if, reports_of, epoll_moved, Makes, epoll_can_move, epoll_expired, epoll_interrupted};
 ghost use Rattle.lx_files.specs.Epolls as epolls;
 
 use crate::descriptors::{has_cloexec, lowest_from, named};
@@ -453,4 +453,205 @@ pub fn set_timeout(call: &mut LxCall, clock: u64)
 {
     let micros = 1000 * u64::from(call.low_argument(3));
     call.deadline = Some(clock.saturating_add(micros));
+}
+
+/// The call holds this open file, if it is an epoll. `NoMemory`: one more hold can't be counted.
+fn hold_epoll(
+    files: &mut Files,
+    call: &mut LxCall,
+    file: u32,
+    f: OpenFile,
+) -> Result<(), NoMemory>
+    ensures ok { OnOk result (outcome files.new call.new ≡ epoll_held_file files.old call.old file (Some f)) }
+    ensures err { OnErr result ((files.new ≡ files.old) × (call.new ≡ call.old)) }
+{
+    match epoll_number(f.kind) {
+        Some(_) => {
+            hold_once(files, file, f)?;
+            call.held = Some(file);
+        }
+        None => call.refuse(LinuxErrno::EINVAL),
+    }
+    Ok(())
+}
+
+/// Hold: the call holds the epoll of its first argument, or is refused. `NoMemory`: one more hold can't be counted; then
+/// nothing changes.
+pub fn epoll_hold(files: &mut Files, call: &mut LxCall) -> Result<(), NoMemory>
+    ensures ok { OnOk result (outcome files.new call.new ≡ epoll_held files.old call.old) }
+    ensures err { OnErr result ((files.new ≡ files.old) × (call.new ≡ call.old)) }
+{
+    let Some(d) = named(files, call, 0) else {
+        call.refuse(LinuxErrno::EBADF);
+        return Ok(());
+    };
+    match place_at(&files.files, d.file) {
+        Some(f) => hold_epoll(files, call, d.file, f),
+        None => {
+            call.refuse(LinuxErrno::EBADF);
+            Ok(())
+        }
+    }
+}
+
+/// The call gives its epoll back.
+fn let_epoll_go(files: &mut Files, call: &mut LxCall, file: u32)
+    ensures { outcome files.new call.new ≡ lets_epoll_go files.old call.old file }
+{
+    give_back(files, file);
+    call.held = None;
+}
+
+/// The epoll that the call holds.
+fn held_epoll(files: &Files, call: &LxCall) -> Option<u32>
+    ensures { result ≡ held_epoll files.now call.now }
+{
+    let file = call.held?;
+    let f = place_at(&files.files, file)?;
+    epoll_number(f.kind)
+}
+
+/// Whether the epoll that the call holds has something to report (epoll_wait(2)).
+pub fn epoll_can_move(files: &Files, call: &LxCall) -> bool
+    ensures { result ≡ epoll_can_move files.now call.now }
+{
+    has_due(files, interests_of(files, held_epoll(files, call)))
+}
+
+/// The most events that the call reports.
+fn most_of(call: &LxCall) -> u32
+    ensures { result ≡ most_of call.now }
+{
+    call.low_argument(2).min(EVENTS)
+}
+
+/// The interests of the epoll of a place, if there is one, have been reported.
+fn report_place(place: &mut Option<Interests>, picks: &[Pick])
+    ensures { place.new ≡ option_map (after_report picks.now) place.old }
+{
+    if let Some(interests) = place {
+        interests.report(picks);
+    }
+}
+
+/// The interests of an epoll have been reported.
+#[tactic(auto, using(std::proofs::lemmas::List::set_past))]
+fn report_at(epolls: &mut [Option<Interests>], number: u32, picks: &[Pick])
+    ensures { epolls.new ≡ slice_set epolls.old number (option_map (after_report picks.now) (at_place epolls.old number)) }
+{
+    let at = number as usize;
+    if at < epolls.len() {
+        report_place(&mut epolls[at], picks);
+    }
+}
+
+/// The events of the interests that are picked, in their order.
+fn events(
+    alloc: Global,
+    files: &Files,
+    interests: &[Interest],
+    picks: &[Pick],
+) -> Result<Bytes, NoMemory>
+    ensures { IfOk result (λ bytes. bytes ≡ events files.now interests.now picks.now) }
+{
+    let mut bytes = Bytes::empty(alloc);
+    append_events(&mut bytes, files, interests, picks)?;
+    Ok(bytes)
+}
+
+/// What an answer stores: where, and the events.
+#[derive(Drop)]
+struct Report {
+    pieces: Pieces,
+    bytes: Bytes,
+}
+
+/// What the call stores where the epoll reports these.
+fn report_parts(
+    alloc: Global,
+    files: &Files,
+    at: u64,
+    interests: &[Interest],
+    picks: &[Pick],
+) -> Result<Report, NoMemory>
+    requires { length picks.now ≤ 4096 }
+    ensures pieces { IfOk result (λ s. s.pieces ≡ piece at (16 * length picks.now) ∷ []) }
+    ensures bytes { IfOk result (λ s. s.bytes ≡ events files.now interests.now picks.now) }
+{
+    let pieces = one_piece(alloc, at, EVENT * picks.len() as u64)?;
+    let bytes = events(alloc, files, interests, picks)?;
+    Ok(Report { pieces, bytes })
+}
+
+/// The epoll of this number reports these, where they are an answer.
+fn report_of(
+    alloc: Global,
+    files: &mut Files,
+    call: &mut LxCall,
+    picks: &[Pick],
+    file: u32,
+    number: u32,
+) -> Result<(), LxRefusal>
+    ensures { Makes (reports_of files.old call.old picks.now file number) files.old call.old files.new call.new result }
+{
+    let Some(Some(interests)) = files.epolls.get(number as usize) else {
+        return Err(LxRefusal::NoStep);
+    };
+    if !is_answer(files, interests.as_slice(), most_of(call) as usize, picks) {
+        return Err(LxRefusal::NoStep);
+    }
+    let parts = report_parts(
+        alloc,
+        files,
+        call.arguments[1],
+        interests.as_slice(),
+        picks,
+    )?;
+    report_at(&mut files.epolls, number, picks);
+    call.answer_with(picks.len() as u64, parts.pieces, parts.bytes);
+    let_epoll_go(files, call, file);
+    Ok(())
+}
+
+/// Move: the epoll that the call holds reports these interests (epoll_wait(2)). Not enabled: they are no answer. Then, and
+/// where memory is wanting, nothing changes.
+pub fn epoll_move(
+    alloc: Global,
+    files: &mut Files,
+    call: &mut LxCall,
+    picks: &[Pick],
+) -> Result<(), LxRefusal>
+    ensures { Makes (epoll_moved files.old call.old picks.now) files.old call.old files.new call.new result }
+{
+    let Some(file) = call.held else {
+        return Err(LxRefusal::NoStep);
+    };
+    match held_epoll(files, call) {
+        Some(number) => report_of(alloc, files, call, picks, file, number),
+        None => Err(LxRefusal::NoStep),
+    }
+}
+
+/// Expire: the wait ends by its deadline, and the call answers 0. Not enabled: it holds no epoll.
+pub fn epoll_expire(files: &mut Files, call: &mut LxCall) -> Result<(), LxRefusal>
+    ensures { Makes (epoll_expired files.old call.old) files.old call.old files.new call.new result }
+{
+    let Some(file) = call.held else {
+        return Err(LxRefusal::NoStep);
+    };
+    call.answer(0);
+    let_epoll_go(files, call, file);
+    Ok(())
+}
+
+/// Interrupt: the wait ends by a signal, with EINTR. Not enabled: it holds no epoll.
+pub fn epoll_interrupt(files: &mut Files, call: &mut LxCall) -> Result<(), LxRefusal>
+    ensures { Makes (epoll_interrupted files.old call.old) files.old call.old files.new call.new result }
+{
+    let Some(file) = call.held else {
+        return Err(LxRefusal::NoStep);
+    };
+    call.refuse(LinuxErrno::EINTR);
+    let_epoll_go(files, call, file);
+    Ok(())
 }
