@@ -20,7 +20,7 @@ use lx_machine::files::{Counter, DESCRIPTORS, Descriptor, FileKind, Files, OpenF
 use std::alloc::Global;
 
 /// Whether a new descriptor is to have its close flag set (O_CLOEXEC).
-pub(crate) fn has_cloexec(flags: u64) -> bool
+pub fn has_cloexec(flags: u64) -> bool
     ensures { result ≡ has_cloexec flags }
 {
     flags / O_CLOEXEC % 2 == 1
@@ -49,7 +49,7 @@ fn flags(call: &LxCall, at: usize) -> u64
 }
 
 /// The descriptor that an argument names, if it is open.
-pub(crate) fn named(files: &Files, call: &LxCall, at: usize) -> Option<Descriptor>
+pub fn named(files: &Files, call: &LxCall, at: usize) -> Option<Descriptor>
     requires { at < 6 }
     ensures { result ≡ at_place files.now.descriptors (low_argument call.now at) }
 {
@@ -57,7 +57,7 @@ pub(crate) fn named(files: &Files, call: &LxCall, at: usize) -> Option<Descripto
 }
 
 /// The lowest free descriptor from this number on.
-pub(crate) fn lowest_from(files: &Files, from: u32) -> Option<u32>
+pub fn lowest_from(files: &Files, from: u32) -> Option<u32>
     requires { from ≤ 256 }
     ensures { result ≡ lowest_from files.now from }
 {

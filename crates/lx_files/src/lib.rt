@@ -1,7 +1,5 @@
-//! Descriptors and open files of the Linux machine, the calls on them, and epolls.
+//! Descriptors and open files of the Linux machine, and the calls on them.
 #![tactic(auto)]
 
 pub mod descriptors;
-pub mod epoll_calls;
-pub mod epolls;
 pub mod files;

@@ -8,17 +8,17 @@ ghost use Rattle.lx_machine.specs.Calls.{argument, low_argument, answered, refus
 ghost use Rattle.lx_machine.specs.Interests.{after_report, stands, changed, without_interest};
 ghost use Rattle.lx_files.specs.Files.{descriptor, with_hold, given_back};
 ghost use Rattle.lx_files.specs.Descriptors.{outcome, refuses, has_cloexec};
-ghost use Rattle.lx_files.specs.Epolls.{epoll_create_refusals, epoll_create_at, epoll_create_numbers, epoll_create1, control_of, epoll_ctl_refusals, event_pieces, epoll_ctl_pieces, epoll_ctl_stage_of, epoll_ctl_stage, kind_of, epoll_number, epoll_of, file_of, interests_in, interests_of, asked_of, data_of, fetched_number, is_exclusive, is_add, stands_in, descriptor_refusals, interest_refusals, or_else, control_refusal, new_interest, controlled, on_epoll, control, epoll_ctl_unless, epoll_ctl, is_not_positive, epoll_pwait_refusals, epoll_pwait_pieces, has_timeout, epoll_pwait_clock, epoll_pwait_held, epoll_pwait_stage, with_timeout, hold_epoll, epoll_held_file, epoll_held, lets_epoll_go, held_epoll, most_of, events, is_answer, reports, reports_if, reports_of, epoll_moved, Makes, epoll_can_move, epoll_expired, epoll_interrupted};
-ghost use Rattle.lx_files.specs.Epolls as epolls;
+ghost use Rattle.lx_epolls.specs.Epolls.{epoll_create_refusals, epoll_create_at, epoll_create_numbers, epoll_create1, control_of, epoll_ctl_refusals, event_pieces, epoll_ctl_pieces, epoll_ctl_stage_of, epoll_ctl_stage, kind_of, epoll_number, epoll_of, file_of, interests_in, interests_of, asked_of, data_of, fetched_number, is_exclusive, is_add, stands_in, descriptor_refusals, interest_refusals, or_else, control_refusal, new_interest, controlled, on_epoll, control, epoll_ctl_unless, epoll_ctl, is_not_positive, epoll_pwait_refusals, epoll_pwait_pieces, has_timeout, epoll_pwait_clock, epoll_pwait_held, epoll_pwait_stage, with_timeout, hold_epoll, epoll_held_file, epoll_held, lets_epoll_go, held_epoll, most_of, events, is_answer, reports, reports_if, reports_of, epoll_moved, Makes, epoll_can_move, epoll_expired, epoll_interrupted};
+ghost use Rattle.lx_epolls.specs.Epolls as epolls;
 
-use crate::descriptors::{has_cloexec, lowest_from, named};
 use crate::epolls::{append_events, has_due, is_answer, told};
-use crate::files::{
-    add_file, first_free, give_back, hold_once, place_at, set_descriptor, set_place,
-};
 use byteorder::{ByteOrder, LittleEndian};
 use linux_abi::LinuxErrno;
 use linux_abi::epoll::{EPOLLEXCLUSIVE, EpollOperation};
+use lx_files::descriptors::{has_cloexec, lowest_from, named};
+use lx_files::files::{
+    add_file, first_free, give_back, hold_once, place_at, set_descriptor, set_place,
+};
 use lx_machine::buffer::{Bytes, NoMemory};
 use lx_machine::calls::{LxCall, Piece, Pieces, Stage, has_other, refused_if};
 use lx_machine::files::{Descriptor, FileKind, Files, Interest, Interests, OpenFile, is_named};
@@ -456,12 +456,7 @@ pub fn set_timeout(call: &mut LxCall, clock: u64)
 }
 
 /// The call holds this open file, if it is an epoll. `NoMemory`: one more hold can't be counted.
-fn hold_epoll(
-    files: &mut Files,
-    call: &mut LxCall,
-    file: u32,
-    f: OpenFile,
-) -> Result<(), NoMemory>
+fn hold_epoll(files: &mut Files, call: &mut LxCall, file: u32, f: OpenFile) -> Result<(), NoMemory>
     ensures ok { OnOk result (outcome files.new call.new ≡ epoll_held_file files.old call.old file (Some f)) }
     ensures err { OnErr result ((files.new ≡ files.old) × (call.new ≡ call.old)) }
 {
@@ -600,13 +595,7 @@ fn report_of(
     if !is_answer(files, interests.as_slice(), most_of(call) as usize, picks) {
         return Err(LxRefusal::NoStep);
     }
-    let parts = report_parts(
-        alloc,
-        files,
-        call.arguments[1],
-        interests.as_slice(),
-        picks,
-    )?;
+    let parts = report_parts(alloc, files, call.arguments[1], interests.as_slice(), picks)?;
     report_at(&mut files.epolls, number, picks);
     call.answer_with(picks.len() as u64, parts.pieces, parts.bytes);
     let_epoll_go(files, call, file);

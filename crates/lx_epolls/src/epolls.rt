@@ -5,11 +5,11 @@ ghost use Rattle.places.specs.Places.{bytes_of};
 ghost use Rattle.lx_machine.specs.Lists.{at_place};
 ghost use Rattle.lx_machine.specs.declared.files.FileKind.TheVariants as kind;
 ghost use Rattle.lx_machine.specs.Interests.{side_holds, is_named, is_picked};
-ghost use Rattle.lx_files.specs.Epolls.{if_so, ready_counter, has_space, pipe_holds, ready, ready_at, wanted, told, reported, is_due, named, is_due_interest, are_due, is_same, are_distinct, is_left, is_answer, event_of, events};
+ghost use Rattle.lx_epolls.specs.Epolls.{if_so, ready_counter, has_space, pipe_holds, ready, ready_at, wanted, told, reported, is_due, named, is_due_interest, are_due, is_same, are_distinct, is_left, is_answer, event_of, events};
 
-use crate::files::{has_reader, has_writer, place_at};
 use byteorder::{ByteOrder, LittleEndian};
 use linux_abi::epoll::{EPOLLERR, EPOLLHUP, EPOLLIN, EPOLLOUT};
+use lx_files::files::{has_reader, has_writer, place_at};
 use lx_machine::buffer::{Bytes, NoMemory, ROOM};
 use lx_machine::files::{Counter, FileKind, Files, Interest, is_edge, is_named, is_picked};
 use lx_machine::label::{LxSide, Pick};
