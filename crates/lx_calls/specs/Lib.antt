@@ -1,6 +1,4 @@
-pub mod Descriptors
 pub mod Entry
-pub mod Files
 pub mod MemoryCalls
 pub mod ProcessCalls
 pub mod Shape

@@ -16,7 +16,7 @@ use Rattle.lx_machine.specs.declared.threads.LxThread.{LxThread}
 use Rattle.lx_calls.specs.Entry.{entered}
 use Rattle.lx_calls.specs.Shape.{stage_of, fetched, not_fetched, mask_of, written, not_written}
 use Rattle.lx_calls.specs.Transfers.{hold, let_go, move}
-use Rattle.lx_calls.specs.Descriptors as descriptors
+use Rattle.lx_files.specs.Descriptors as descriptors
 use Rattle.lx_calls.specs.MemoryCalls as memory
 use Rattle.lx_calls.specs.ProcessCalls.{own_id, uname, set_tid_address, exit_group, leave}
 

@@ -1,5 +1,5 @@
 -- read, write, readv and writev: Hold, Drop and Move. Source: read(2), write(2), readv(2), pipe(7), eventfd(2).
-use Rattle.std.specs.Prelude.{◌≡◌, ℕ, ◌+◌, ◌-◌, ◌^◌, ◌==◌, Bool, true, false, ◌&&◌, ◌||◌, nat_lt, nat_le, min, if◌then◌else◌, List, [], ◌∷◌, ◌++◌, length, take, drop, Option, Some, None, Result, Ok, Err, pos}
+use Rattle.std.specs.Prelude.{◌≡◌, ℕ, ◌+◌, ◌-◌, ◌^◌, ◌==◌, Bool, true, false, ◌&&◌, ◌||◌, nat_lt, nat_le, min, if◌then◌else◌, List, [], ◌∷◌, ◌++◌, length, take, drop, Option, Some, None, is_some, Result, Ok, Err, pos}
 use Rattle.std.proofs.Math.Bool.{not}
 use Rattle.std.specs.List.{list_any}
 use Rattle.std.specs.Option.{option_map}
@@ -12,6 +12,7 @@ use Rattle.linux_abi.specs.declared.errno.LinuxErrno.{LinuxErrno}
 use Rattle.linux_abi.specs.declared.errno.LinuxErrno.TheVariants as errno
 use Rattle.linux_abi.specs.declared.signals.LinuxSig.TheVariants as signal
 use Rattle.lx_machine.specs.Lists.{bind, at_place, with_place}
+use Rattle.lx_machine.specs.Interests.{armed_on}
 use Rattle.lx_machine.specs.Pieces.{total}
 use Rattle.lx_machine.specs.Calls.{low_argument, answered, answered_with, refused}
 use Rattle.lx_machine.specs.Signals.{is_of, action_of}
@@ -32,7 +33,7 @@ use Rattle.lx_machine.specs.declared.signals.Origin.TheVariants.{Sender}
 use Rattle.lx_machine.specs.declared.refusal.LxRefusal.{LxRefusal}
 use Rattle.lx_machine.specs.declared.refusal.LxRefusal.TheVariants.{NoStep, NoMemory}
 use Rattle.lx_machine.specs.declared.threads.LxThread.{LxThread}
-use Rattle.lx_calls.specs.Files.{has_reader, has_writer, with_hold, given_back}
+use Rattle.lx_files.specs.Files.{has_reader, has_writer, with_hold, given_back}
 
 -- what a step of a transfer leaves of the files, how the call stands then, and whether its thread gets SIGPIPE
 pub record Outcome : Type 0 where
@@ -113,16 +114,21 @@ waits F c file f = if f.nonblocking then ends_refused F c file errno.EAGAIN else
 
 -- ---- reads
 
+-- a pipe with these bytes
+abbrev pub with_pipe : Files → ℕ → List ℕ → Files
+with_pipe F p bytes = record F { pipes = with_place F.pipes p bytes }
+
 -- a read that ends with these bytes, which are then stored
 abbrev pub reads_bytes : Files → LxCall → ℕ → List ℕ → Option Outcome
 reads_bytes F c file bytes = Some (lets_go F (answered_with c (length bytes) c.pieces bytes) file)
 
--- a read from a pipe that holds these bytes: none held is the end where no writer is left
+-- a read from a pipe that holds these bytes, which arms the interests in its write end: none held is the end where no
+-- writer is left
 abbrev pub read_pipe : Files → LxCall → ℕ → OpenFile → ℕ → List ℕ → Option Outcome
 read_pipe F c file f p [] = if has_writer F p then waits F c file f else ends_with F c file 0
 read_pipe F c file f p (b ∷ bs) =
     let most = total c.pieces in
-    reads_bytes (record F { pipes = with_place F.pipes p (drop most (b ∷ bs)) }) c file (take most (b ∷ bs))
+    reads_bytes (armed_on (kind.PipeWrite p) (with_pipe F p (drop most (b ∷ bs)))) c file (take most (b ∷ bs))
 
 -- a read from the input
 abbrev pub read_input : Files → LxCall → ℕ → Option Outcome
@@ -137,8 +143,9 @@ counted n = if n.semaphore then 1 else n.value
 abbrev pub counted_down : Counter → Counter
 counted_down n = record n { value = n.value - counted n }
 
+-- a counter after a read or a write, which arms the interests in it
 abbrev pub with_counter : Files → ℕ → Counter → Files
-with_counter F number n = record F { counters = with_place F.counters number n }
+with_counter F number n = armed_on (kind.Counter number) (record F { counters = with_place F.counters number n })
 
 abbrev pub read_counter : Files → LxCall → ℕ → OpenFile → ℕ → Counter → Option Outcome
 read_counter F c file f number n =
@@ -177,19 +184,16 @@ wrote F c file f n =
 abbrev pub write_waits : Files → LxCall → ℕ → OpenFile → Option Outcome
 write_waits F c file f = if f.nonblocking && nat_lt 0 c.moved then ends_with F c file c.moved else waits F c file f
 
--- a pipe with these bytes
-abbrev pub with_pipe : Files → ℕ → List ℕ → Files
-with_pipe F p bytes = record F { pipes = with_place F.pipes p bytes }
-
 -- a write to a pipe without a reader: its thread gets SIGPIPE
 abbrev pub breaks : Files → LxCall → ℕ → Option Outcome
 breaks F c file = Some (record (lets_go F (answered c (if nat_lt 0 c.moved then c.moved else answer_of errno.EPIPE)) file) { is_broken = true })
 
+-- a write to a pipe arms the interests in its read end
 abbrev pub write_pipe : Files → LxCall → ℕ → OpenFile → ℕ → List ℕ → Option Outcome
 write_pipe F c file f p holds =
     let n = goes_in c (length holds) in
     if not (has_reader F p) then breaks F c file else (
-    if n == 0 then write_waits F c file f else wrote (with_pipe F p (holds ++ take n c.bytes)) c file f n)
+    if n == 0 then write_waits F c file f else wrote (armed_on (kind.PipeRead p) (with_pipe F p (holds ++ take n c.bytes))) c file f n)
 
 -- a console room is a pipe whose reader stays; what has ever been put into it is kept too
 abbrev pub into_console : Files → LxSide → List ℕ → Files
@@ -226,6 +230,24 @@ move_file F c file f = if is_read c then read_move F c file f f.kind else write_
 
 abbrev pub moved : Files → LxCall → Option Outcome
 moved F c = bind c.held (λ file. bind (at_place F.files file) (move_file F c file))
+
+-- Move has a step
+abbrev pub can_move : Files → LxCall → Bool
+can_move F c = is_some (moved F c)
+
+-- ---- Interrupt
+
+-- what a transfer answers that a signal ends: what it has moved before, and else EINTR
+abbrev pub interrupted_answer : LxCall → ℕ
+interrupted_answer c = if nat_lt 0 c.moved then c.moved else answer_of errno.EINTR
+
+-- the wait of a transfer ends by a signal, and the hold is given back
+abbrev pub interrupted : Files → LxCall → Option Outcome
+interrupted F c = bind c.held (λ file. ends_with F c file (interrupted_answer c))
+
+-- a transfer that has moved nothing may start again after that
+abbrev pub may_restart : LxCall → Bool
+may_restart c = c.moved == 0
 
 -- a function that computes a step of a transfer, and tells whether its thread gets SIGPIPE: it leaves what the step leaves.
 -- Where there is no such step, or memory is wanting, nothing changes

@@ -1,11 +1,10 @@
 //! What the calls of the Linux machine do: the plain functions that compute the effects of `specs/`.
 #![tactic(auto)]
 
-pub mod descriptors;
 pub mod entry;
-pub mod files;
 pub mod memory_calls;
 pub mod process_calls;
+pub mod readiness;
 pub mod reads;
 pub mod shape;
 #[cfg(test)]

@@ -5,22 +5,23 @@ ghost use Rattle.lx_machine.specs.Lists.{bind, at_place};
 ghost use Rattle.lx_machine.specs.Pieces.{total};
 ghost use Rattle.std.specs.Option.{option_map};
 ghost use Rattle.lx_machine.specs.declared.files.FileKind.TheVariants as kind;
-ghost use Rattle.lx_calls.specs.Files.{held_in};
+ghost use Rattle.lx_files.specs.Files.{held_in};
 ghost use Rattle.lx_calls.specs.Transfers.{outcome, reads_bytes, read_pipe, counted, counted_down, with_counter, read_counter, read_move, Makes};
 
-use crate::files::{has_writer, place_at, set_place};
-use crate::transfers::{end_refused, end_with, finish, wait};
+use crate::transfers::{end_refused, end_with, finish, set_counter, wait};
 use byteorder::{ByteOrder, LittleEndian};
 use linux_abi::LinuxErrno;
+use lx_files::files::{has_writer, place_at};
 use lx_machine::buffer::{Bytes, NoMemory, Room};
 use lx_machine::calls::{LxCall, Piece};
+use lx_machine::epolls::arm_on;
 use lx_machine::files::{Counter, FileKind, Files, Input, OpenFile};
 use lx_machine::refusal::LxRefusal;
 use std::alloc::Global;
 
 /// The lengths of the pieces together, as far as they are counted.
 #[tactic(auto, using(std::proofs::lemmas::List::drop_all))]
-fn total(pieces: &[Piece]) -> u64
+pub(crate) fn total(pieces: &[Piece]) -> u64
     ensures { result ≡ min (total pieces.now) (2 ^ 64 - 1) }
 {
     let mut sum = 0u64;
@@ -135,6 +136,7 @@ fn read_from_pipe(
         return read_nothing(files, call, file, f, pipe);
     }
     let bytes = take_from_pipe(alloc, &mut files.pipes, pipe, call.pieces.as_slice())?;
+    arm_on(files, FileKind::PipeWrite(pipe));
     end_with_bytes(files, call, file, bytes);
     Ok(false)
 }
@@ -213,7 +215,7 @@ fn count_down(
         value: counter.value - taken,
         semaphore: counter.semaphore,
     };
-    set_place(&mut files.counters, number, Some(left));
+    set_counter(files, number, left);
     end_with_bytes(files, call, file, bytes);
     Ok(())
 }

@@ -1,11 +1,11 @@
 // Whole runs of calls, where memory is ample: no clause says that it is.
 
-use crate::descriptors::{eventfd2, pipe2};
 use crate::entry::enter;
 use crate::memory_calls::{brk, mmap, munmap};
 use crate::process_calls::uname;
 use crate::shape::{after_fetch, stage_of};
 use crate::transfers::{hold, let_go, move_bytes};
+use lx_files::descriptors::{eventfd2, pipe2};
 use lx_machine::buffer::{Bytes, Room};
 use lx_machine::calls::{LxCall, Piece, Stage};
 use lx_machine::files::{Descriptor, FileKind, Files, Input, OpenFile};

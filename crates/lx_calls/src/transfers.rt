@@ -1,20 +1,21 @@
 //! The steps of read(2), write(2), readv(2) and writev(2) that hold an open file, give it back, and move bytes.
 ghost use Rattle.std.specs.Prelude.{◌≡◌, false, Some, None, OnErr, OnOk};
-ghost use Rattle.lx_calls.specs.Transfers.{outcome, is_read, direction_refusal, hold_file, held, lets_go, dropped, waits, ends_with, ends_refused, move_file, moved, Makes, has_room_for_broken_pipe, with_broken_pipe};
+ghost use Rattle.lx_calls.specs.Transfers.{outcome, is_read, direction_refusal, hold_file, held, lets_go, dropped, with_counter, waits, ends_with, ends_refused, move_file, moved, Makes, interrupted_answer, interrupted, may_restart, has_room_for_broken_pipe, with_broken_pipe};
 
-use crate::files::{give_back, hold_once, place_at};
 use crate::reads::read_move;
 use crate::writes::write_move;
-use linux_abi::{Call, LinuxErrno, LinuxSig};
+use linux_abi::{Call, LinuxErrno, LinuxSig, answer};
+use lx_files::files::{give_back, hold_once, place_at, set_place};
 use lx_machine::buffer::NoMemory;
 use lx_machine::calls::LxCall;
-use lx_machine::files::{FileKind, Files, OpenFile};
+use lx_machine::epolls::arm_on;
+use lx_machine::files::{Counter, FileKind, Files, OpenFile};
 use lx_machine::refusal::LxRefusal;
 use lx_machine::signals::{Origin, Pending, SigInfo};
 use std::alloc::Global;
 
 /// Whether the call reads.
-fn is_read(call: &LxCall) -> bool
+pub(crate) fn is_read(call: &LxCall) -> bool
     ensures { result ≡ is_read call.now }
 {
     match Call::new(call.number) {
@@ -94,6 +95,14 @@ pub fn let_go(files: &mut Files, call: &mut LxCall) -> Result<(), LxRefusal>
     }
 }
 
+/// A counter after a read or a write, which arms the interests in it.
+pub(crate) fn set_counter(files: &mut Files, number: u32, counter: Counter)
+    ensures { files.new ≡ with_counter files.old number counter }
+{
+    set_place(&mut files.counters, number, Some(counter));
+    arm_on(files, FileKind::Counter(number));
+}
+
 /// A move that ends with this number.
 pub(crate) fn end_with(files: &mut Files, call: &mut LxCall, file: u32, n: u64)
     ensures { ends_with files.old call.old file n ≡ Some (outcome files.new call.new) }
@@ -156,6 +165,39 @@ pub fn move_bytes(alloc: Global, files: &mut Files, call: &mut LxCall) -> Result
         Some(f) => move_file(alloc, files, call, file, f),
         None => Err(LxRefusal::NoStep),
     }
+}
+
+/// What the call answers where a signal ends its wait.
+fn interrupted_answer(call: &LxCall) -> u64
+    ensures { result ≡ interrupted_answer call.now }
+{
+    if call.moved > 0 {
+        call.moved
+    } else {
+        answer(LinuxErrno::EINTR)
+    }
+}
+
+/// Interrupt: a signal ends the wait of a transfer (signal(7)), which answers what it has moved before, and else EINTR. Not
+/// enabled: it holds no open file; then nothing changes.
+pub fn interrupt(files: &mut Files, call: &mut LxCall) -> Result<(), LxRefusal>
+    ensures ok { OnOk result (interrupted files.old call.old ≡ Some (outcome files.new call.new)) }
+    ensures err { OnErr result (interrupted files.old call.old ≡ None) }
+    ensures kept { OnErr result ((files.new ≡ files.old) × (call.new ≡ call.old)) }
+{
+    let Some(file) = call.held else {
+        return Err(LxRefusal::NoStep);
+    };
+    let n = interrupted_answer(call);
+    end_with(files, call, file, n);
+    Ok(())
+}
+
+/// Whether a transfer that a signal has ended may start again (signal(7), SA_RESTART): it has moved nothing.
+pub fn may_restart(call: &LxCall) -> bool
+    ensures { result ≡ may_restart call.now }
+{
+    call.moved == 0
 }
 
 /// Whether SIGPIPE can become pending: it is ignored or pending already, or there is room for it.

@@ -3,15 +3,16 @@ ghost use Rattle.std.specs.Prelude.{◌≡◌, ◌≤◌, ◌<◌, ◌+◌, ◌-
 ghost use Rattle.lx_machine.specs.Lists.{bind, at_place};
 ghost use Rattle.std.specs.Option.{option_map};
 ghost use Rattle.lx_machine.specs.declared.files.FileKind.TheVariants as kind;
-ghost use Rattle.lx_calls.specs.Files.{held_in};
+ghost use Rattle.lx_files.specs.Files.{held_in};
 ghost use Rattle.lx_calls.specs.Transfers.{outcome, waits, ends_with, with_counter, console_holds, count, goes_in, wrote, write_waits, breaks, write_pipe, into_console, write_console, write_counter, write_move, Makes};
 
-use crate::files::{has_reader, place_at, set_place};
-use crate::transfers::{end_refused, end_with, finish, wait};
+use crate::transfers::{end_refused, end_with, finish, set_counter, wait};
 use crate::vectors::number;
 use linux_abi::{LinuxErrno, answer};
+use lx_files::files::{has_reader, place_at};
 use lx_machine::buffer::{Bytes, NoMemory, ROOM, Room};
 use lx_machine::calls::LxCall;
+use lx_machine::epolls::arm_on;
 use lx_machine::files::{Counter, FileKind, Files, OpenFile};
 use lx_machine::label::LxSide;
 use lx_machine::refusal::LxRefusal;
@@ -20,7 +21,7 @@ use lx_machine::refusal::LxRefusal;
 const PIPE_BUF: u64 = 4096;
 
 /// Whether a write is of at most so many bytes in all.
-fn is_at_most(call: &LxCall, most: u64) -> bool
+pub(crate) fn is_at_most(call: &LxCall, most: u64) -> bool
     ensures { result ≡ nat_le (count call.now) most }
 {
     let left = call.bytes.as_slice().len() as u64;
@@ -28,7 +29,7 @@ fn is_at_most(call: &LxCall, most: u64) -> bool
 }
 
 /// How many bytes now go into a room.
-fn goes_in(call: &LxCall, room: &Room) -> usize
+pub(crate) fn goes_in(call: &LxCall, room: &Room) -> usize
     ensures value { result ≡ goes_in call.now (length room.now) }
     ensures fits { 0 < result → length room.now + result ≤ 65536 }
     ensures most { result ≤ length call.now.bytes }
@@ -140,6 +141,7 @@ fn write_to_pipe(
     }
     let moved = moved_with(call, n)?;
     put_into_pipe(&mut files.pipes, pipe, &call.bytes.as_slice()[..n]);
+    arm_on(files, FileKind::PipeRead(pipe));
     wrote(files, call, file, f, n, moved);
     Ok(false)
 }
@@ -174,7 +176,7 @@ fn put(room: &mut Room, ever: &mut Bytes, bytes: &[u8]) -> Result<(), NoMemory>
 }
 
 /// How many bytes now go into a console.
-fn goes_into_console(files: &Files, call: &LxCall, which: LxSide) -> usize
+pub(crate) fn goes_into_console(files: &Files, call: &LxCall, which: LxSide) -> usize
     ensures value { result ≡ goes_in call.now (length (console_holds files.now which)) }
     ensures fits { 0 < result → length (console_holds files.now which) + result ≤ 65536 }
     ensures most { result ≤ length call.now.bytes }
@@ -252,7 +254,7 @@ fn add_to_counter(
                 value,
                 semaphore: counter.semaphore,
             };
-            set_place(&mut files.counters, number, Some(more));
+            set_counter(files, number, more);
             end_with(files, call, file, 8);
             Ok(false)
         }

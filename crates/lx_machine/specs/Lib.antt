@@ -1,5 +1,6 @@
 pub mod Calls
 pub mod Instructions
+pub mod Interests
 pub mod Lists
 pub mod Memory
 pub mod Pieces

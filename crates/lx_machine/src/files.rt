@@ -1,8 +1,12 @@
 //! Descriptors, open files, counters and interests (open(2), pipe(7), eventfd(2), epoll(7)), and all of them together.
-ghost use Rattle.std.specs.Prelude.{◌≡◌, ◌≤◌, drop, take, length, OnOk, OnErr, []};
+ghost use Rattle.std.specs.Prelude.{◌≡◌, ◌≤◌, ◌++◌, ◌∷◌, drop, take, length, map, filter, OnOk, OnErr, []};
+ghost use Rattle.lx_machine.specs.Lists.{at_place};
+ghost use Rattle.lx_machine.specs.Interests.{is_named, in_place_of, changed, is_other, without_interest, is_elsewhere, without_those_in, is_edge, is_one_shot, reported_once, is_picked, if_reported, after_report, is_side, is_kind, is_open_of, if_armed, armed_for};
 
-use crate::buffer::{Bytes, Room};
-use crate::label::LxSide;
+use crate::buffer::{Bytes, NoMemory, Room};
+use crate::label::{LxSide, Pick};
+use linux_abi::epoll::{EPOLLET, EPOLLONESHOT};
+use std::alloc::Global;
 use std::marker::Model;
 
 /// What an open file is. Pipes, counters and epolls have numbers of their own.
@@ -69,6 +73,229 @@ impl Model for Interests {
     ghost Value = { List Interest };
 
     ghost view = { λ i. i.items.items };
+}
+
+impl Interests {
+    /// No interests. Takes no memory.
+    pub fn none(alloc: Global) -> Interests
+        ensures { result ≡ [] }
+    {
+        Interests {
+            items: Vec::new(alloc),
+        }
+    }
+
+    /// The interests.
+    pub fn as_slice(&self) -> &[Interest]
+        ensures { result.now ≡ self.now }
+    {
+        self.items.as_slice()
+    }
+
+    /// Puts an interest behind the others (EPOLL_CTL_ADD). Where memory is wanting, nothing changes.
+    pub fn add(&mut self, interest: Interest) -> Result<(), NoMemory>
+        ensures ok { OnOk result (self.new ≡ self.old ++ interest ∷ []) }
+        ensures err { OnErr result (self.new ≡ self.old) }
+    {
+        self.items.push(interest).map_err(|_| NoMemory)
+    }
+
+    /// This interest stands where one of its name stood (EPOLL_CTL_MOD).
+    pub fn change(&mut self, new: Interest)
+        ensures { self.new ≡ changed new self.old }
+    {
+        change_from(0, &mut self.items, new);
+    }
+
+    /// Lets the interest of this name go (EPOLL_CTL_DEL).
+    pub fn remove(&mut self, file: u32, descriptor: u32)
+        ensures { self.new ≡ without_interest file descriptor self.old }
+    {
+        let_go_of(&mut self.items, file, descriptor);
+    }
+
+    /// Lets all interests in an open file go, which has ended.
+    pub fn remove_file(&mut self, file: u32)
+        ensures { self.new ≡ without_those_in file self.old }
+    {
+        let_go_in(&mut self.items, file);
+    }
+
+    /// These interests have been reported.
+    pub fn report(&mut self, picks: &[Pick])
+        ensures { self.new ≡ after_report picks.now self.old }
+    {
+        report_from(0, &mut self.items, picks);
+    }
+
+    /// Arms the interests whose open file is this.
+    pub fn arm(&mut self, kind: FileKind, files: &[Option<OpenFile>])
+        ensures { self.new ≡ armed_for kind files.now self.old }
+    {
+        arm_from(0, &mut self.items, kind, files);
+    }
+}
+
+/// Whether the interest has this name.
+pub fn is_named(file: u32, descriptor: u32, interest: Interest) -> bool
+    ensures { result ≡ is_named file descriptor interest }
+{
+    interest.file == file && interest.descriptor == descriptor
+}
+
+/// Lets the interest of this name go.
+fn let_go_of(items: &mut Vec<Interest>, file: u32, descriptor: u32)
+    ensures { items.new.items ≡ without_interest file descriptor items.old.items }
+{
+    items.retain(|i| !is_named(file, descriptor, *i));
+}
+
+/// Lets the interests in this open file go.
+fn let_go_in(items: &mut Vec<Interest>, file: u32)
+    ensures { items.new.items ≡ without_those_in file items.old.items }
+{
+    items.retain(|i| i.file != file);
+}
+
+/// This interest, if the other one has its name, and else the other one.
+fn in_place_of(new: Interest, interest: Interest) -> Interest
+    ensures { result ≡ in_place_of new interest }
+{
+    if is_named(new.file, new.descriptor, interest) {
+        new
+    } else {
+        interest
+    }
+}
+
+/// From this place on, this interest stands where one of its name stood.
+fn change_from(at: usize, interests: &mut [Interest], new: Interest)
+    requires { at ≤ length interests.old }
+    ensures { interests.new ≡ take at interests.old ++ map (in_place_of new) (drop at interests.old) }
+{
+    if at < interests.len() {
+        interests[at] = in_place_of(new, interests[at]);
+        change_from(at + 1, interests, new);
+    }
+}
+
+/// Whether the interest reports on new activity alone (EPOLLET).
+pub fn is_edge(interest: Interest) -> bool
+    ensures { result ≡ is_edge interest }
+{
+    interest.asked / EPOLLET % 2 == 1
+}
+
+/// Whether a report disables the interest (EPOLLONESHOT).
+pub fn is_one_shot(interest: Interest) -> bool
+    ensures { result ≡ is_one_shot interest }
+{
+    interest.asked / EPOLLONESHOT % 2 == 1
+}
+
+/// An interest that has been reported.
+fn reported_once(interest: Interest) -> Interest
+    ensures { result ≡ reported_once interest }
+{
+    Interest {
+        descriptor: interest.descriptor,
+        file: interest.file,
+        asked: interest.asked,
+        data: interest.data,
+        armed: interest.armed && !is_edge(interest),
+        enabled: interest.enabled && !is_one_shot(interest),
+    }
+}
+
+/// Whether the interest is among those that are picked.
+pub fn is_picked(picks: &[Pick], interest: Interest) -> bool
+    ensures { result ≡ is_picked picks.now interest }
+{
+    picks
+        .iter()
+        .any(|p| is_named(p.file, p.descriptor, interest))
+}
+
+/// The interest after these have been reported.
+fn if_reported(picks: &[Pick], interest: Interest) -> Interest
+    ensures { result ≡ if_reported picks.now interest }
+{
+    if is_picked(picks, interest) {
+        reported_once(interest)
+    } else {
+        interest
+    }
+}
+
+/// From this place on, these interests have been reported.
+fn report_from(at: usize, interests: &mut [Interest], picks: &[Pick])
+    requires { at ≤ length interests.old }
+    ensures { interests.new ≡ take at interests.old ++ map (if_reported picks.now) (drop at interests.old) }
+{
+    if at < interests.len() {
+        interests[at] = if_reported(picks, interests[at]);
+        report_from(at + 1, interests, picks);
+    }
+}
+
+/// Whether both are the same side.
+fn is_side(a: LxSide, b: LxSide) -> bool
+    ensures { result ≡ is_side a b }
+{
+    matches!(
+        (a, b),
+        (LxSide::Out, LxSide::Out) | (LxSide::Err, LxSide::Err)
+    )
+}
+
+/// Whether an open file is exactly this: the input, this console, this end of this pipe, this counter, this epoll.
+pub fn is_kind(wanted: FileKind, kind: FileKind) -> bool
+    ensures { result ≡ is_kind wanted kind }
+{
+    match (wanted, kind) {
+        (FileKind::Input, FileKind::Input) => true,
+        (FileKind::Console(a), FileKind::Console(b)) => is_side(a, b),
+        (FileKind::PipeRead(a), FileKind::PipeRead(b)) => a == b,
+        (FileKind::PipeWrite(a), FileKind::PipeWrite(b)) => a == b,
+        (FileKind::Counter(a), FileKind::Counter(b)) => a == b,
+        (FileKind::Epoll(a), FileKind::Epoll(b)) => a == b,
+        _ => false,
+    }
+}
+
+/// Whether the open file of this number is exactly this.
+fn is_open_of(kind: FileKind, files: &[Option<OpenFile>], file: u32) -> bool
+    ensures { result ≡ is_open_of kind (at_place files.now file) }
+{
+    match files.get(file as usize) {
+        Some(Some(f)) => is_kind(kind, f.kind),
+        _ => false,
+    }
+}
+
+/// The interest, armed where its open file is this.
+fn if_armed(kind: FileKind, files: &[Option<OpenFile>], interest: Interest) -> Interest
+    ensures { result ≡ if_armed kind files.now interest }
+{
+    Interest {
+        descriptor: interest.descriptor,
+        file: interest.file,
+        asked: interest.asked,
+        data: interest.data,
+        armed: interest.armed || is_open_of(kind, files, interest.file),
+        enabled: interest.enabled,
+    }
+}
+
+/// From this place on, arms the interests whose open file is this.
+fn arm_from(at: usize, interests: &mut [Interest], kind: FileKind, files: &[Option<OpenFile>])
+    requires { at ≤ length interests.old }
+    ensures { interests.new ≡ take at interests.old ++ map (if_armed kind files.now) (drop at interests.old) }
+{
+    if at < interests.len() {
+        interests[at] = if_armed(kind, files, interests[at]);
+        arm_from(at + 1, interests, kind, files);
+    }
 }
 
 /// The input of the guest, of which contracts see the bytes that are left.

@@ -7,6 +7,7 @@
 pub mod buffer;
 pub mod calls;
 pub mod death;
+pub mod epolls;
 pub mod files;
 pub mod futexes;
 pub mod label;

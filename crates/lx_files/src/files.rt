@@ -2,9 +2,11 @@
 ghost use Rattle.std.specs.Prelude.{◌≡◌, ◌<◌, ◌+◌, ◌^◌, ◌≤◌, drop, length, slice_set, IfSome, OnErr, OnOk};
 ghost use Rattle.std.specs.List.{list_any};
 ghost use Rattle.lx_machine.specs.Lists.{at_place, without_place, first_free, first_free_from};
-ghost use Rattle.lx_calls.specs.Files.{names, is_unnamed, is_read_end, is_write_end, is_open_as, has_reader, has_writer, without_pipe, after_end_of, without_file, ended_if_unnamed, settled, held_once_more, held_once_less, with_hold, given_back, with_descriptor, closed, with_file};
+ghost use Rattle.lx_machine.specs.Interests.{armed_on, without_interests};
+ghost use Rattle.lx_files.specs.Files.{names, is_unnamed, is_read_end, is_write_end, is_open_as, has_reader, has_writer, without_pipe, after_end_of, without_file, ended_if_unnamed, settled, held_once_more, held_once_less, with_hold, given_back, with_descriptor, closed, with_file};
 
 use lx_machine::buffer::NoMemory;
+use lx_machine::epolls::{arm_on, remove_interests};
 use lx_machine::files::{Descriptor, FileKind, Files, OpenFile};
 
 /// The lowest free place, where these are the places from `from` on.
@@ -134,13 +136,21 @@ fn let_pipe_go(files: &mut Files, pipe: u32)
     }
 }
 
+/// After an end of a pipe has ended, of which this is the other end: it arms the interests in that one.
+fn end_of_pipe(files: &mut Files, pipe: u32, other: FileKind)
+    ensures { files.new ≡ without_pipe (armed_on other files.old) pipe }
+{
+    arm_on(files, other);
+    let_pipe_go(files, pipe);
+}
+
 /// Lets go of what an open file of this kind was.
 fn end_kind(files: &mut Files, kind: FileKind)
     ensures { files.new ≡ after_end_of kind files.old }
 {
     match kind {
-        FileKind::PipeRead(pipe) => let_pipe_go(files, pipe),
-        FileKind::PipeWrite(pipe) => let_pipe_go(files, pipe),
+        FileKind::PipeRead(pipe) => end_of_pipe(files, pipe, FileKind::PipeWrite(pipe)),
+        FileKind::PipeWrite(pipe) => end_of_pipe(files, pipe, FileKind::PipeRead(pipe)),
         FileKind::Counter(number) => set_place(&mut files.counters, number, None),
         FileKind::Epoll(number) => set_place(&mut files.epolls, number, None),
         FileKind::Input => {}
@@ -153,6 +163,7 @@ fn end_file(files: &mut Files, file: u32, kind: FileKind)
     ensures { files.new ≡ without_file files.old file kind }
 {
     set_place(&mut files.files, file, None);
+    remove_interests(files, file);
     end_kind(files, kind);
 }
 

@@ -1,10 +1,12 @@
--- FileEffects: descriptors, open files, pipes and counters. A new one has the least number that no living one of its kind
--- has. An open file lives while a descriptor or a call's hold names it, a pipe while one of its ends lives, and a counter
--- while its open file lives. Source: open(2), close(2), pipe(2), eventfd(2).
+-- FileEffects: descriptors, open files, pipes, counters and epolls. A new one has the least number that no living one of its
+-- kind has. An open file lives while a descriptor or a call's hold names it, a pipe while one of its ends lives, and a
+-- counter or an epoll while its open file lives. The interests in an open file end with it. Source: open(2), close(2),
+-- pipe(2), eventfd(2), epoll(7).
 use Rattle.std.specs.Prelude.{ℕ, ◌+◌, ◌-◌, ◌==◌, Bool, false, ◌&&◌, ◌||◌, if◌then◌else◌, List, [], Option, Some, None}
 use Rattle.std.proofs.Math.Bool.{not}
 use Rattle.std.specs.List.{list_any}
 use Rattle.lx_machine.specs.Lists.{at_place, with_place, without_place}
+use Rattle.lx_machine.specs.Interests.{armed_on, without_interests}
 use Rattle.lx_machine.specs.declared.files.Files.{Files}
 use Rattle.lx_machine.specs.declared.files.Descriptor.{Descriptor}
 use Rattle.lx_machine.specs.declared.files.OpenFile.{OpenFile}
@@ -52,16 +54,17 @@ held_in (Some bytes) = bytes
 abbrev pub without_pipe : Files → ℕ → Files
 without_pipe F pipe = if has_reader F pipe || has_writer F pipe then F else record F { pipes = without_place F.pipes pipe }
 
--- what an open file of this kind was is gone with it
+-- what an open file of this kind was is gone with it, and the end of an end of a pipe arms the interests in the other end
 abbrev pub after_end_of : FileKind → Files → Files
-after_end_of (kind.PipeRead p) F = without_pipe F p
-after_end_of (kind.PipeWrite p) F = without_pipe F p
+after_end_of (kind.PipeRead p) F = without_pipe (armed_on (kind.PipeWrite p) F) p
+after_end_of (kind.PipeWrite p) F = without_pipe (armed_on (kind.PipeRead p) F) p
 after_end_of (kind.Counter n) F = record F { counters = without_place F.counters n }
 after_end_of (kind.Epoll n) F = record F { epolls = without_place F.epolls n }
 after_end_of _ F = F
 
+-- the open file is gone, with the interests in it
 abbrev pub without_file : Files → ℕ → FileKind → Files
-without_file F file k = after_end_of k (record F { files = without_place F.files file })
+without_file F file k = after_end_of k (without_interests file (record F { files = without_place F.files file }))
 
 -- the open file ends where nothing names it any more
 abbrev pub ended_if_unnamed : Files → ℕ → OpenFile → Files

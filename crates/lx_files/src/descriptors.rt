@@ -5,8 +5,8 @@ ghost use Rattle.lx_machine.specs.Pieces.{piece};
 ghost use Rattle.lx_machine.specs.declared.calls.LxCall.{LxCall};
 ghost use Rattle.lx_machine.specs.Lists.{at_place};
 ghost use Rattle.lx_machine.specs.Calls.{argument, low_argument};
-ghost use Rattle.lx_calls.specs.Files.{descriptor, with_descriptor, with_file};
-ghost use Rattle.lx_calls.specs.Descriptors.{outcome, answers, refuses, has_cloexec, has_nonblock, has_semaphore, lowest_from, counter_at, eventfd_at, eventfd2, duplicate_at, duplicate, dup, dup3_to, dup3_of, dup3, access_mode, status_of, get_status, set_status, fcntl, refused_where_open, ioctl, lseek, close, second_free, pipe_at, pipe_from, pipe2};
+ghost use Rattle.lx_files.specs.Files.{descriptor, with_descriptor, with_file};
+ghost use Rattle.lx_files.specs.Descriptors.{outcome, answers, refuses, has_cloexec, has_nonblock, has_semaphore, lowest_from, counter_at, eventfd_at, eventfd2, duplicate_at, duplicate, dup, dup3_to, dup3_of, dup3, access_mode, status_of, get_status, set_status, fcntl, refused_where_open, ioctl, lseek, close, second_free, pipe_at, pipe_from, pipe2};
 
 use crate::files::{
     add_file, close_descriptor, first_free, next_free, place_at, set_descriptor, set_place,
@@ -20,7 +20,7 @@ use lx_machine::files::{Counter, DESCRIPTORS, Descriptor, FileKind, Files, OpenF
 use std::alloc::Global;
 
 /// Whether a new descriptor is to have its close flag set (O_CLOEXEC).
-fn has_cloexec(flags: u64) -> bool
+pub fn has_cloexec(flags: u64) -> bool
     ensures { result ≡ has_cloexec flags }
 {
     flags / O_CLOEXEC % 2 == 1
@@ -49,7 +49,7 @@ fn flags(call: &LxCall, at: usize) -> u64
 }
 
 /// The descriptor that an argument names, if it is open.
-fn named(files: &Files, call: &LxCall, at: usize) -> Option<Descriptor>
+pub fn named(files: &Files, call: &LxCall, at: usize) -> Option<Descriptor>
     requires { at < 6 }
     ensures { result ≡ at_place files.now.descriptors (low_argument call.now at) }
 {
@@ -57,7 +57,7 @@ fn named(files: &Files, call: &LxCall, at: usize) -> Option<Descriptor>
 }
 
 /// The lowest free descriptor from this number on.
-fn lowest_from(files: &Files, from: u32) -> Option<u32>
+pub fn lowest_from(files: &Files, from: u32) -> Option<u32>
     requires { from ≤ 256 }
     ensures { result ≡ lowest_from files.now from }
 {

@@ -16,7 +16,7 @@ use Rattle.lx_machine.specs.declared.files.Descriptor.{Descriptor}
 use Rattle.lx_machine.specs.declared.files.OpenFile.{OpenFile}
 use Rattle.lx_machine.specs.declared.files.FileKind.{FileKind}
 use Rattle.lx_machine.specs.declared.files.FileKind.TheVariants as kind
-use Rattle.lx_calls.specs.Files.{descriptor, with_descriptor, closed, with_file}
+use Rattle.lx_files.specs.Files.{descriptor, with_descriptor, closed, with_file}
 
 -- what a call leaves of the files, and how the call stands then
 pub record Outcome : Type 0 where

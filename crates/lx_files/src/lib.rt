@@ -1,0 +1,5 @@
+//! Descriptors and open files of the Linux machine, and the calls on them.
+#![tactic(auto)]
+
+pub mod descriptors;
+pub mod files;
