@@ -377,6 +377,19 @@ Makes step F c new_files new_call (Err NoMemory) = (new_files ≡ F) × (new_cal
 abbrev pub epoll_can_move : Files → LxCall → Bool
 epoll_can_move F c = list_any (is_due F) (interests_of F (held_epoll F c))
 
+-- the first due interests, at most so many, in their order
+abbrev pub pick_of : Interest → Pick
+pick_of i = record { file = i.file; descriptor = i.descriptor }
+
+abbrev pub first_due : Files → ℕ → List Interest → List Pick
+first_due F most [] = []
+first_due F most (i ∷ is) =
+    if nat_lt 0 most && is_due F i then (pick_of i ∷ first_due F (most - 1) is) else first_due F most is
+
+-- what the epoll that the call holds can report first
+abbrev pub first_picks : Files → LxCall → List Pick
+first_picks F c = first_due F (most_of c) (interests_of F (held_epoll F c))
+
 -- Expire: the call answers 0
 abbrev pub epoll_expired : Files → LxCall → Option Outcome
 epoll_expired F c = bind c.held (λ file. Some (lets_epoll_go F (answered c 0) file))

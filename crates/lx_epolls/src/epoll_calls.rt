@@ -8,10 +8,10 @@ ghost use Rattle.lx_machine.specs.Calls.{argument, low_argument, answered, refus
 ghost use Rattle.lx_machine.specs.Interests.{after_report, stands, changed, without_interest};
 ghost use Rattle.lx_files.specs.Files.{descriptor, with_hold, given_back};
 ghost use Rattle.lx_files.specs.Descriptors.{outcome, refuses, has_cloexec};
-ghost use Rattle.lx_epolls.specs.Epolls.{epoll_create_refusals, epoll_create_at, epoll_create_numbers, epoll_create1, control_of, epoll_ctl_refusals, event_pieces, epoll_ctl_pieces, epoll_ctl_stage_of, epoll_ctl_stage, kind_of, epoll_number, epoll_of, file_of, interests_in, interests_of, asked_of, data_of, fetched_number, is_exclusive, is_add, stands_in, descriptor_refusals, interest_refusals, or_else, control_refusal, new_interest, controlled, on_epoll, control, epoll_ctl_unless, epoll_ctl, is_not_positive, epoll_pwait_refusals, epoll_pwait_pieces, has_timeout, epoll_pwait_clock, epoll_pwait_held, epoll_pwait_stage, with_timeout, hold_epoll, epoll_held_file, epoll_held, lets_epoll_go, held_epoll, most_of, events, is_answer, reports, reports_if, reports_of, epoll_moved, Makes, epoll_can_move, epoll_expired, epoll_interrupted};
+ghost use Rattle.lx_epolls.specs.Epolls.{epoll_create_refusals, epoll_create_at, epoll_create_numbers, epoll_create1, control_of, epoll_ctl_refusals, event_pieces, epoll_ctl_pieces, epoll_ctl_stage_of, epoll_ctl_stage, kind_of, epoll_number, epoll_of, file_of, interests_in, interests_of, asked_of, data_of, fetched_number, is_exclusive, is_add, stands_in, descriptor_refusals, interest_refusals, or_else, control_refusal, new_interest, controlled, on_epoll, control, epoll_ctl_unless, epoll_ctl, is_not_positive, epoll_pwait_refusals, epoll_pwait_pieces, has_timeout, epoll_pwait_clock, epoll_pwait_held, epoll_pwait_stage, with_timeout, hold_epoll, epoll_held_file, epoll_held, lets_epoll_go, held_epoll, first_picks, most_of, events, is_answer, reports, reports_if, reports_of, epoll_moved, Makes, epoll_can_move, epoll_expired, epoll_interrupted};
 ghost use Rattle.lx_epolls.specs.Epolls as epolls;
 
-use crate::epolls::{append_events, has_due, is_answer, told};
+use crate::epolls::{append_events, has_due, is_answer, push_due, told};
 use byteorder::{ByteOrder, LittleEndian};
 use linux_abi::LinuxErrno;
 use linux_abi::epoll::{EPOLLEXCLUSIVE, EpollOperation};
@@ -22,7 +22,7 @@ use lx_files::files::{
 use lx_machine::buffer::{Bytes, NoMemory};
 use lx_machine::calls::{LxCall, Piece, Pieces, Stage, has_other, refused_if};
 use lx_machine::files::{Descriptor, FileKind, Files, Interest, Interests, OpenFile, is_named};
-use lx_machine::label::Pick;
+use lx_machine::label::{Pick, Picks};
 use lx_machine::refusal::LxRefusal;
 use std::alloc::Global;
 
@@ -511,6 +511,16 @@ pub fn epoll_can_move(files: &Files, call: &LxCall) -> bool
     ensures { result ≡ epoll_can_move files.now call.now }
 {
     has_due(files, interests_of(files, held_epoll(files, call)))
+}
+
+/// What the epoll that the call holds can report first: its first due interests, as many as the call takes.
+pub fn first_picks(alloc: Global, files: &Files, call: &LxCall) -> Result<Picks, NoMemory>
+    ensures { IfOk result (λ picks. picks ≡ first_picks files.now call.now) }
+{
+    let interests = interests_of(files, held_epoll(files, call));
+    let mut picks = Vec::new(alloc);
+    push_due(&mut picks, files, most_of(call), interests)?;
+    Ok(Picks::from_vec(picks))
 }
 
 /// The most events that the call reports.

@@ -5,7 +5,7 @@ ghost use Rattle.places.specs.Places.{bytes_of};
 ghost use Rattle.lx_machine.specs.Lists.{at_place};
 ghost use Rattle.lx_machine.specs.declared.files.FileKind.TheVariants as kind;
 ghost use Rattle.lx_machine.specs.Interests.{side_holds, is_named, is_picked};
-ghost use Rattle.lx_epolls.specs.Epolls.{if_so, ready_counter, has_space, pipe_holds, ready, ready_at, wanted, told, reported, is_due, named, is_due_interest, are_due, is_same, are_distinct, is_left, is_answer, event_of, events};
+ghost use Rattle.lx_epolls.specs.Epolls.{if_so, ready_counter, has_space, pipe_holds, ready, ready_at, wanted, told, reported, is_due, named, is_due_interest, are_due, is_same, are_distinct, is_left, is_answer, event_of, events, first_due};
 
 use byteorder::{ByteOrder, LittleEndian};
 use linux_abi::epoll::{EPOLLERR, EPOLLHUP, EPOLLIN, EPOLLOUT};
@@ -264,6 +264,31 @@ pub fn append_events(
         [first, rest @ ..] => {
             append_named(bytes, files, interests, *first)?;
             append_events(bytes, files, interests, rest)
+        }
+    }
+}
+
+/// Puts the first due interests behind these, at most so many.
+pub fn push_due(
+    picks: &mut Vec<Pick>,
+    files: &Files,
+    most: u32,
+    interests: &[Interest],
+) -> Result<(), NoMemory>
+    ensures { OnOk result (picks.new.items ≡ picks.old.items ++ first_due files.now most interests.now) }
+{
+    match interests {
+        [] => Ok(()),
+        [first, rest @ ..] => {
+            if most == 0 || !is_due(files, *first) {
+                return push_due(picks, files, most, rest);
+            }
+            let pick = Pick {
+                file: first.file,
+                descriptor: first.descriptor,
+            };
+            picks.push(pick).map_err(|_| NoMemory)?;
+            push_due(picks, files, most - 1, rest)
         }
     }
 }

@@ -3,3 +3,5 @@
 
 pub mod epoll_calls;
 pub mod epolls;
+#[cfg(test)]
+mod tests;
