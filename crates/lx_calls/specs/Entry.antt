@@ -12,6 +12,15 @@ use Rattle.lx_machine.specs.Pieces.{piece, clipped}
 use Rattle.lx_machine.specs.Calls.{argument, low_argument, refused, first_refusal, has_other}
 use Rattle.lx_machine.specs.declared.calls.LxCall.{LxCall}
 use Rattle.lx_machine.specs.declared.calls.Piece.{Piece}
+use Rattle.lx_epolls.specs.Epolls.{epoll_create_refusals, epoll_ctl_refusals, epoll_ctl_pieces, epoll_pwait_refusals, epoll_pwait_pieces}
+use Rattle.lx_threads.specs.Clones.{clone_refusals, set_robust_list_refusals}
+use Rattle.lx_threads.specs.Futexes.{futex_refusals, futex_pieces}
+use Rattle.lx_threads.specs.Time.{nanosleep_pieces, clock_gettime_refusals}
+use Rattle.lx_signals.specs.Sending.{kill_refusals, tkill_refusals, tgkill_refusals}
+use Rattle.lx_signals.specs.Actions.{sigaction_refusals, sigaction_pieces}
+use Rattle.lx_signals.specs.Masks.{sigprocmask_refusals, sigprocmask_pieces, sigpending_refusals, sigsuspend_refusals, sigsuspend_pieces}
+use Rattle.lx_signals.specs.Stacks.{sigaltstack_pieces}
+use Rattle.lx_signals.specs.Frames.{sigreturn_pieces}
 use Rattle.lx_calls.specs.Vectors.{most_vectors}
 
 -- the address is no multiple of a page
@@ -86,25 +95,49 @@ refusals c call.Madvise = madvise_refusals c
 refusals c call.Eventfd2 = eventfd_refusals c
 refusals c call.Pipe2 = pipe_refusals c
 refusals c call.Dup3 = dup3_refusals c
+refusals c call.EpollCreate1 = epoll_create_refusals c
+refusals c call.EpollCtl = epoll_ctl_refusals c
+refusals c call.EpollPwait = epoll_pwait_refusals c
+refusals c call.Clone = clone_refusals c
+refusals c call.SetRobustList = set_robust_list_refusals c
+refusals c call.Futex = futex_refusals c
+refusals c call.ClockGettime = clock_gettime_refusals c
+refusals c call.Kill = kill_refusals c
+refusals c call.Tkill = tkill_refusals c
+refusals c call.Tgkill = tgkill_refusals c
+refusals c call.RtSigsuspend = sigsuspend_refusals c
+refusals c call.RtSigaction = sigaction_refusals c
+refusals c call.RtSigprocmask = sigprocmask_refusals c
+refusals c call.RtSigpending = sigpending_refusals c
 refusals c _ = []
 
--- the pieces of a transfer: the first 65,536 bytes of its range, or first of all its vectors, of 16 bytes each
-abbrev pub first_pieces : LxCall → Call → List Piece
-first_pieces c call.Read = clipped 65536 (piece (argument c 1) (argument c 2) ∷ [])
-first_pieces c call.Write = clipped 65536 (piece (argument c 1) (argument c 2) ∷ [])
-first_pieces c call.Readv = clipped 65536 (piece (argument c 1) (low_argument c 2 * 16) ∷ [])
-first_pieces c call.Writev = clipped 65536 (piece (argument c 1) (low_argument c 2 * 16) ∷ [])
-first_pieces c _ = []
+-- what a call fetches first: a write its bytes, and a transfer of vectors these, of 16 bytes each, as far as the first 65,536
+-- bytes
+abbrev pub first_pieces : ℕ → LxCall → Call → List Piece
+first_pieces sp c call.Read = clipped 65536 (piece (argument c 1) (argument c 2) ∷ [])
+first_pieces sp c call.Write = clipped 65536 (piece (argument c 1) (argument c 2) ∷ [])
+first_pieces sp c call.Readv = clipped 65536 (piece (argument c 1) (low_argument c 2 * 16) ∷ [])
+first_pieces sp c call.Writev = clipped 65536 (piece (argument c 1) (low_argument c 2 * 16) ∷ [])
+first_pieces sp c call.EpollCtl = epoll_ctl_pieces c
+first_pieces sp c call.EpollPwait = epoll_pwait_pieces c
+first_pieces sp c call.Futex = futex_pieces c
+first_pieces sp c call.Nanosleep = nanosleep_pieces c
+first_pieces sp c call.Sigaltstack = sigaltstack_pieces c
+first_pieces sp c call.RtSigsuspend = sigsuspend_pieces c
+first_pieces sp c call.RtSigaction = sigaction_pieces c
+first_pieces sp c call.RtSigprocmask = sigprocmask_pieces c
+first_pieces sp c call.RtSigreturn = sigreturn_pieces sp
+first_pieces sp c _ = []
 
-abbrev pub entered_unless : LxCall → Call → Option LinuxErrno → LxCall
-entered_unless c k (Some e) = refused c e
-entered_unless c k None = record c { pieces = first_pieces c k }
+abbrev pub entered_unless : ℕ → LxCall → Call → Option LinuxErrno → LxCall
+entered_unless sp c k (Some e) = refused c e
+entered_unless sp c k None = record c { pieces = first_pieces sp c k }
 
 -- a call without a number of its own is refused with ENOSYS
-abbrev pub entered_as : LxCall → Option Call → LxCall
-entered_as c (Some k) = entered_unless c k (first_refusal (refusals c k))
-entered_as c None = refused c errno.ENOSYS
+abbrev pub entered_as : ℕ → LxCall → Option Call → LxCall
+entered_as sp c (Some k) = entered_unless sp c k (first_refusal (refusals c k))
+entered_as sp c None = refused c errno.ENOSYS
 
 -- a call as SVC enters it, where sp is this
 abbrev pub entered : ℕ → LxCall → LxCall
-entered sp c = entered_as c (call_of c.number)
+entered sp c = entered_as sp c (call_of c.number)

@@ -1,7 +1,12 @@
 pub mod Entry
+pub mod FutexSteps
+pub mod Lives
 pub mod MemoryCalls
 pub mod ProcessCalls
 pub mod Shape
+pub mod SignalSteps
 pub mod Table
 pub mod Transfers
 pub mod Vectors
+pub mod Waits
+pub mod WholeCalls

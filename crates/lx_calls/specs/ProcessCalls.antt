@@ -1,4 +1,4 @@
--- exit, exit_group, the ids, set_tid_address, sched_yield and uname. Source: _exit(2), exit_group(2), getpid(2), getuid(2),
+-- exit_group, the ids, set_tid_address, sched_yield and uname. Source: _exit(2), exit_group(2), getpid(2), getuid(2),
 -- gettid(2), set_tid_address(2), sched_yield(2), uname(2). Which numbers and names these are is this project's own.
 use Rattle.std.specs.Prelude.{ℕ, ◌-◌, ◌%◌, Bool, true, false, if◌then◌else◌, List, [], ◌∷◌, ◌++◌, length, codes, replicate, Option, Some, None}
 use Rattle.lx_machine.specs.Pieces.{piece}
@@ -41,7 +41,3 @@ abbrev pub all_free : List (Option LxThread) → Bool
 all_free [] = true
 all_free (None ∷ ts) = all_free ts
 all_free (Some t ∷ ts) = false
-
--- exit of the only thread ends the guest. Of several it is not built
-abbrev pub leave : LinuxState → ℕ → LxThread → LxCall → Option LinuxState
-leave L s t c = if all_free L.threads then Some (exit_group L s t c) else None

@@ -1,12 +1,11 @@
 -- The table of effects: what each call does, by its number; and the Linux machine with it.
 use Rattle.std.specs.Prelude.{ℕ, ◌*◌, Bool, true, false, List, Option, Some, None}
-use Rattle.std.specs.Option.{option_map}
+use Rattle.std.specs.Option.{option_map, option_or}
 use Rattle.linux_abi.specs.Call.{call_of}
 use Rattle.linux_abi.specs.declared.calls.Call.{Call}
 use Rattle.linux_abi.specs.declared.calls.Call.TheVariants as call
 use Rattle.lx_machine.specs.Lists.{bind}
 use Rattle.lx_machine.specs.Calls.{answered}
-use Rattle.lx_machine.specs.declared.label.Pick.{Pick}
 use Rattle.lx_machine.specs.declared.state.LinuxState.{LinuxState}
 use Rattle.lx_machine.specs.Threads.{in_call_of, after_write}
 use Rattle.lx_machine.specs.Step.{Effects, InCall, LStep, LRun}
@@ -15,14 +14,20 @@ use Rattle.lx_machine.specs.declared.label.Label.{Label}
 use Rattle.lx_machine.specs.declared.threads.LxThread.{LxThread}
 use Rattle.lx_calls.specs.Entry.{entered}
 use Rattle.lx_calls.specs.Shape.{stage_of, fetched, not_fetched, mask_of, written, not_written}
-use Rattle.lx_calls.specs.Transfers.{hold, let_go, move}
+use Rattle.lx_calls.specs.Transfers.{let_go}
+use Rattle.lx_calls.specs.FutexSteps.{queue, requeue, wake_op, release, resume}
+use Rattle.lx_calls.specs.Lives.{start, leave, mark, gone}
+use Rattle.lx_calls.specs.SignalSteps.{return, take, frame, kill, kill_in_call}
+use Rattle.lx_calls.specs.Waits.{on_files, clock, hold, move, expire, interrupt}
+use Rattle.lx_calls.specs.WholeCalls.{whole_effect}
+use Rattle.lx_epolls.specs.Epolls.{epoll_create1, epoll_ctl}
+use Rattle.lx_threads.specs.Clones.{with_robust_list, set_robust_list}
+use Rattle.lx_signals.specs.Frames.{sigreturn_regs, sigreturn_mask, sigreturn_call}
+use Rattle.lx_signals.specs.Masks.{sigprocmask_mask, sigprocmask_call, sigpending_call}
+use Rattle.lx_signals.specs.Stacks.{sigaltstack_stack, sigaltstack_call}
 use Rattle.lx_files.specs.Descriptors as descriptors
 use Rattle.lx_calls.specs.MemoryCalls as memory
-use Rattle.lx_calls.specs.ProcessCalls.{own_id, uname, set_tid_address, exit_group, leave}
-
--- a call that has changed files
-abbrev pub on_files : LinuxState → ℕ → LxThread → descriptors.Outcome → LinuxState
-on_files L s t o = in_call_of (record L { files = o.files }) s t o.call
+use Rattle.lx_calls.specs.ProcessCalls.{own_id, uname, set_tid_address, exit_group}
 
 -- a call that has changed memory: pages that it gave up or made zeros count as written by its thread
 abbrev pub on_space : LinuxState → ℕ → LxThread → memory.Outcome → LinuxState
@@ -58,6 +63,13 @@ effect_of L s t c call.Getuid = Some (on_call L s t c own_id)
 effect_of L s t c call.Geteuid = Some (on_call L s t c own_id)
 effect_of L s t c call.Getgid = Some (on_call L s t c own_id)
 effect_of L s t c call.Getegid = Some (on_call L s t c own_id)
+effect_of L s t c call.EpollCreate1 = Some (on_files L s t (epoll_create1 L.files c))
+effect_of L s t c call.EpollCtl = Some (on_files L s t (epoll_ctl L.files c))
+effect_of L s t c call.SetRobustList = Some (in_call_of L s (with_robust_list t c) (set_robust_list c))
+effect_of L s t c call.Sigaltstack = Some (in_call_of L s (record t { alt_stack = sigaltstack_stack t.regs.sp t.alt_stack c }) (sigaltstack_call t.regs.sp t.alt_stack c))
+effect_of L s t c call.RtSigprocmask = Some (in_call_of L s (record t { mask = sigprocmask_mask t.mask c }) (sigprocmask_call t.mask c))
+effect_of L s t c call.RtSigpending = Some (in_call_of L s t (sigpending_call t.mask t.pending L.pending c))
+effect_of L s t c call.RtSigreturn = Some (in_call_of L s (record t { regs = sigreturn_regs t.regs c; mask = sigreturn_mask c }) (sigreturn_call c))
 effect_of L s t c _ = None
 
 -- what a call does where memory runs short
@@ -68,12 +80,14 @@ abbrev pub effect_by : Bool → LinuxState → ℕ → LxThread → LxCall → C
 effect_by true L s t c k = short_effect L s t c k
 effect_by false L s t c k = effect_of L s t c k
 
-abbrev pub effect : Bool → InCall
-effect short L s t c = bind (call_of c.number) (effect_by short L s t c)
+-- Effect of a call that changes no other thread
+abbrev pub own_effect : Bool → InCall
+own_effect short L s t c = bind (call_of c.number) (effect_by short L s t c)
 
--- Move of a transfer, which picks nothing
-abbrev pub move_picked : List Pick → InCall
-move_picked picks L s t c = move L s t c picks
+-- Effect: a call of all threads is never short of memory
+abbrev pub effect : Bool → InCall
+effect true L s t c = own_effect true L s t c
+effect false L s t c = option_or (whole_effect L s t c) (own_effect false L s t c)
 
 abbrev pub effects : Effects
 effects = record {
@@ -87,25 +101,24 @@ effects = record {
   hold = hold;
   let_go = let_go;
   effect = effect;
-  move = move_picked;
-  clock = λ L s t c. None;
-  queue = λ w L s t c. None;
-  requeue = λ r L s t c. None;
-  word_op = λ w L s t c. None;
-  mark = λ m L s t c. None;
-  release = λ w L s t c. None;
-  resume = λ L s t c. None;
-  expire = λ st L s t c. None;
-  interrupt = λ list sig st L s t c. None;
-  start = λ L s t c. None;
+  move = move;
+  clock = clock;
+  queue = queue;
+  requeue = requeue;
+  word_op = wake_op;
+  mark = mark;
+  release = release;
+  resume = resume;
+  expire = expire;
+  interrupt = interrupt;
+  start = start;
   leave = leave;
-  gone = λ L s t c. None;
-  return = λ named L s t c. None;
-  take = λ list sig L s t. None;
-  frame = λ L s t. None;
-  kill = λ L s t. None;
-  kill_in_call = λ L s t c. None;
-  drained = λ L which. L;
+  gone = gone;
+  return = return;
+  take = take;
+  frame = frame;
+  kill = kill;
+  kill_in_call = kill_in_call;
 }
 
 -- one step of the Linux machine, and a run of it

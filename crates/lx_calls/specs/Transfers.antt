@@ -282,13 +282,5 @@ after_move L t is_broken =
 abbrev pub on_transfer : LinuxState → ℕ → LxThread → Outcome → LinuxState
 on_transfer L s t o = in_call_of (record L { files = o.files }) s (after_move L t o.is_broken) o.call
 
-abbrev pub hold : LinuxState → ℕ → LxThread → LxCall → Option LinuxState
-hold L s t c = Some (on_transfer L s t (held L.files c))
-
 abbrev pub let_go : LinuxState → ℕ → LxThread → LxCall → Option LinuxState
 let_go L s t c = option_map (on_transfer L s t) (dropped L.files c)
-
--- Move of a transfer, which picks nothing
-abbrev pub move : LinuxState → ℕ → LxThread → LxCall → List Pick → Option LinuxState
-move L s t c (p ∷ ps) = None
-move L s t c [] = option_map (on_transfer L s t) (moved L.files c)

@@ -1,15 +1,29 @@
 //! How SVC enters a call: the refusals that need no look at the machine, in their order. The manual page of each call says
 //! which there are.
-ghost use Rattle.std.specs.Prelude.{◌≡◌, Some, IfOk, OnErr, OnOk};
+ghost use Rattle.std.specs.Prelude.{◌≡◌, ◌∷◌, [], Some, IfOk, OnErr, OnOk};
 ghost use Rattle.lx_machine.specs.Calls.{first_refusal};
+ghost use Rattle.lx_machine.specs.Pieces.{piece, clipped};
 ghost use Rattle.lx_calls.specs.Entry.{is_unaligned, pages_of, ends_above, is_fixed, wants_execute, vector_refusals, mmap_refusals, munmap_refusals, mprotect_refusals, madvise_refusals, eventfd_refusals, pipe_refusals, dup3_refusals, refusals, first_pieces, entered_as, entered};
 
 use crate::vectors::clip;
 use linux_abi::files::IOV_MAX;
 use linux_abi::memory::{Advice, MAP_ANONYMOUS, MAP_FIXED, MAP_PRIVATE, MAP_SHARED, PROT_EXEC};
 use linux_abi::{Call, LinuxErrno};
+use lx_epolls::epoll_calls::{
+    epoll_create_refusal, epoll_ctl_pieces, epoll_ctl_refusal, epoll_pwait_pieces, epoll_pwait_refusal,
+};
 use lx_machine::buffer::{NoMemory, ROOM};
 use lx_machine::calls::{LxCall, Piece, Pieces, has_other, refused_if};
+use lx_signals::actions::{sigaction_pieces, sigaction_refusal};
+use lx_signals::masks::{
+    sigpending_refusal, sigprocmask_pieces, sigprocmask_refusal, sigsuspend_pieces, sigsuspend_refusal,
+};
+use lx_signals::sending::{kill_refusal, tgkill_refusal, tkill_refusal};
+use lx_signals::sigreturn::sigreturn_pieces;
+use lx_signals::stacks::sigaltstack_pieces;
+use lx_threads::clones::{clone_refusal, set_robust_list_refusal};
+use lx_threads::futexes::{futex_pieces, futex_refusal};
+use lx_threads::time::{clock_gettime_refusal, nanosleep_pieces};
 use std::alloc::Global;
 
 /// The first address that no program has.
@@ -185,72 +199,74 @@ fn refusal(call: &LxCall, kind: Call) -> Option<LinuxErrno>
         Call::Eventfd2 => eventfd_refusal(call),
         Call::Pipe2 => pipe_refusal(call),
         Call::Dup3 => dup3_refusal(call),
+        Call::EpollCreate1 => epoll_create_refusal(call),
+        Call::EpollCtl => epoll_ctl_refusal(call),
+        Call::EpollPwait => epoll_pwait_refusal(call),
+        Call::Clone => clone_refusal(call),
+        Call::SetRobustList => set_robust_list_refusal(call),
+        Call::Futex => futex_refusal(call),
+        Call::ClockGettime => clock_gettime_refusal(call),
+        Call::Kill => kill_refusal(call),
+        Call::Tkill => tkill_refusal(call),
+        Call::Tgkill => tgkill_refusal(call),
+        Call::RtSigsuspend => sigsuspend_refusal(call),
+        Call::RtSigaction => sigaction_refusal(call),
+        Call::RtSigprocmask => sigprocmask_refusal(call),
+        Call::RtSigpending => sigpending_refusal(call),
         _ => None,
     }
 }
 
-/// The pieces of a transfer.
-fn first_pieces(alloc: Global, call: &LxCall, kind: Call) -> Result<Pieces, NoMemory>
-    ensures { IfOk result (λ pieces. pieces ≡ first_pieces call.now kind) }
+/// The first bytes of a range, as one piece.
+fn transfer(alloc: Global, at: u64, len: u64) -> Result<Pieces, NoMemory>
+    ensures { IfOk result (λ pieces. pieces ≡ clipped 65536 (piece at len ∷ [])) }
 {
-    let at = call.arguments[1];
+    clip(alloc, ROOM as u64, &[Piece { at, len }])
+}
+
+/// What a call fetches first.
+fn first_pieces(alloc: Global, sp: u64, call: &LxCall, kind: Call) -> Result<Pieces, NoMemory>
+    ensures { IfOk result (λ pieces. pieces ≡ first_pieces sp call.now kind) }
+{
+    let [_, at, len, ..] = call.arguments;
     match kind {
-        Call::Read => clip(
-            alloc,
-            ROOM as u64,
-            &[Piece {
-                at,
-                len: call.arguments[2],
-            }],
-        ),
-        Call::Write => clip(
-            alloc,
-            ROOM as u64,
-            &[Piece {
-                at,
-                len: call.arguments[2],
-            }],
-        ),
-        Call::Readv => clip(
-            alloc,
-            ROOM as u64,
-            &[Piece {
-                at,
-                len: u64::from(call.low_argument(2)) * VECTOR,
-            }],
-        ),
-        Call::Writev => clip(
-            alloc,
-            ROOM as u64,
-            &[Piece {
-                at,
-                len: u64::from(call.low_argument(2)) * VECTOR,
-            }],
-        ),
+        Call::Read | Call::Write => transfer(alloc, at, len),
+        Call::Readv | Call::Writev => {
+            transfer(alloc, at, u64::from(call.low_argument(2)) * VECTOR)
+        }
+        Call::EpollCtl => epoll_ctl_pieces(alloc, call),
+        Call::EpollPwait => epoll_pwait_pieces(alloc, call),
+        Call::Futex => futex_pieces(alloc, call),
+        Call::Nanosleep => nanosleep_pieces(alloc, call),
+        Call::Sigaltstack => sigaltstack_pieces(alloc, call),
+        Call::RtSigsuspend => sigsuspend_pieces(alloc, call),
+        Call::RtSigaction => sigaction_pieces(alloc, call),
+        Call::RtSigprocmask => sigprocmask_pieces(alloc, call),
+        Call::RtSigreturn => sigreturn_pieces(alloc, sp),
         _ => Ok(Pieces::none(alloc)),
     }
 }
 
 /// Enters a known call.
-fn enter_as(alloc: Global, call: &mut LxCall, kind: Call) -> Result<(), NoMemory>
-    ensures ok { OnOk result (call.new ≡ entered_as call.old (Some kind)) }
+fn enter_as(alloc: Global, sp: u64, call: &mut LxCall, kind: Call) -> Result<(), NoMemory>
+    ensures ok { OnOk result (call.new ≡ entered_as sp call.old (Some kind)) }
     ensures err { OnErr result (call.new ≡ call.old) }
 {
     match refusal(call, kind) {
         Some(e) => call.refuse(e),
-        None => call.pieces = first_pieces(alloc, call, kind)?,
+        None => call.pieces = first_pieces(alloc, sp, call, kind)?,
     }
     Ok(())
 }
 
-/// Enters a call as SVC finds it (syscall(2)): one without a number of its own, and one whose arguments are refused, has
-/// its answer at once. Where memory is wanting, nothing changes.
+/// Enters a call as SVC finds it, where sp is this (syscall(2)): one without a number of its own, and one whose arguments are
+/// refused, has its answer at once. Where memory is wanting, nothing changes.
 pub fn enter(alloc: Global, sp: u64, call: &mut LxCall) -> Result<(), NoMemory>
     ensures ok { OnOk result (call.new ≡ entered sp call.old) }
     ensures err { OnErr result (call.new ≡ call.old) }
 {
     match Call::new(call.number) {
-        Some(kind) => enter_as(alloc, call, kind),
+        Some(kind) => enter_as(alloc, sp, call, kind),
         None => {
             call.refuse(LinuxErrno::ENOSYS);
             Ok(())

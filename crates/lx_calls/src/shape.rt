@@ -1,13 +1,22 @@
 //! What each call does, one thing after the other. The manual page of each call says so.
 ghost use Rattle.std.specs.Prelude.{◌≡◌, OnErr, OnOk};
 ghost use Rattle.lx_machine.specs.Calls.{low_argument, storing, answered_stage};
-ghost use Rattle.lx_calls.specs.Shape.{fetch_first, write_stage, read_stage, readv_stage, working_stage, known_stage, stage_of, fetched_by, with_vectors, fetched};
+ghost use Rattle.lx_calls.specs.Shape.{fetch_first, write_stage, read_stage, readv_stage, exit_stage, working_stage, known_stage, finishing_stage, stage_of, fetched_by, with_vectors, fetched, not_fetched, mask_of, written, not_written};
 ghost use Rattle.lx_calls.specs.Vectors.{vectors};
 
 use crate::vectors::{clip, has_negative, read_vectors};
 use linux_abi::{Call, LinuxErrno};
+use lx_epolls::epoll_calls::{epoll_ctl_stage, epoll_pwait_stage};
 use lx_machine::buffer::{NoMemory, ROOM};
 use lx_machine::calls::{LxCall, Piece, Stage};
+use lx_signals::actions::sigaction_stage;
+use lx_signals::masks::{blockable, fetched_mask, sigprocmask_stage, sigsuspend_stage};
+use lx_signals::sigreturn::sigreturn_stage;
+use lx_signals::stacks::sigaltstack_stage;
+use lx_threads::clones::{birth_stage, clone_not_stored, clone_stage};
+use lx_threads::deaths::{death_fetched, death_not_fetched, death_stage, death_stored};
+use lx_threads::futexes::{futex_fetched, futex_stage};
+use lx_threads::time::{clock_gettime_stage, nanosleep_stage, timeout_fetched};
 use std::alloc::Global;
 
 /// The next bytes are stored, and where none are left the call returns.
@@ -24,7 +33,7 @@ fn storing(call: &LxCall) -> Stage
     }
 }
 
-/// What a call with a result does next.
+/// What a call with a result, and no child to start, does next.
 fn answered(call: &LxCall) -> Stage
     ensures { result ≡ answered_stage call.now call.now.held }
 {
@@ -75,6 +84,16 @@ fn readv_stage(call: &LxCall) -> Stage
     }
 }
 
+/// exit begins the death of its thread, and then that goes on.
+fn exit_stage(call: &LxCall) -> Stage
+    ensures { result ≡ exit_stage call.now.death }
+{
+    match call.death {
+        Some(death) => death_stage(death),
+        None => Stage::Leave,
+    }
+}
+
 /// What a known call without a result does next.
 fn working(call: &LxCall, kind: Call) -> Stage
     ensures { result ≡ working_stage call.now kind }
@@ -83,14 +102,36 @@ fn working(call: &LxCall, kind: Call) -> Stage
         Call::Read => read_stage(call),
         Call::Readv => readv_stage(call),
         Call::Write | Call::Writev => write_stage(call),
-        Call::Exit => Stage::Leave,
+        Call::Exit => exit_stage(call),
         Call::ExitGroup | Call::SetTidAddress | Call::SchedYield | Call::Uname => Stage::Effect,
         Call::Eventfd2 | Call::Dup | Call::Dup3 | Call::Fcntl => Stage::Effect,
         Call::Ioctl | Call::Close | Call::Pipe2 | Call::Lseek => Stage::Effect,
         Call::Getpid | Call::Getppid | Call::Gettid => Stage::Effect,
         Call::Getuid | Call::Geteuid | Call::Getgid | Call::Getegid => Stage::Effect,
         Call::Brk | Call::Munmap | Call::Mmap | Call::Mprotect | Call::Madvise => Stage::Effect,
-        _ => Stage::Return,
+        Call::EpollCreate1 | Call::SetRobustList | Call::GetRobustList => Stage::Effect,
+        Call::Kill | Call::Tkill | Call::Tgkill | Call::RtSigpending => Stage::Effect,
+        Call::EpollCtl => epoll_ctl_stage(call),
+        Call::EpollPwait => epoll_pwait_stage(call),
+        Call::Clone => clone_stage(call),
+        Call::Futex => futex_stage(call),
+        Call::Nanosleep => nanosleep_stage(call),
+        Call::ClockGettime => clock_gettime_stage(call),
+        Call::Sigaltstack => sigaltstack_stage(call),
+        Call::RtSigsuspend => sigsuspend_stage(call),
+        Call::RtSigaction => sigaction_stage(call),
+        Call::RtSigprocmask => sigprocmask_stage(call),
+        Call::RtSigreturn => sigreturn_stage(call),
+    }
+}
+
+/// What a call with a result does next: a clone's child starts before it returns.
+fn finishing(call: &LxCall) -> Stage
+    ensures { result ≡ finishing_stage call.now call.now.child }
+{
+    match call.child {
+        Some(_) => birth_stage(call),
+        None => answered(call),
     }
 }
 
@@ -99,7 +140,7 @@ pub fn stage_of(call: &LxCall) -> Stage
     ensures { result ≡ stage_of call.now }
 {
     if call.result.is_some() {
-        return answered(call);
+        return finishing(call);
     }
     match Call::new(call.number) {
         Some(kind) => working(call, kind),
@@ -122,8 +163,8 @@ fn take_vectors(alloc: Global, call: &mut LxCall) -> Result<(), NoMemory>
     Ok(())
 }
 
-/// A call after it has fetched a piece: the first piece of a readv or a writev are its vectors (readv(2)). Where memory is
-/// wanting, nothing changes.
+/// A call after it has fetched a piece: the first piece of a readv or a writev are its vectors (readv(2)), that of a futex
+/// wait and of nanosleep a timeout, and that of a death an entry. Where memory is wanting, nothing changes.
 pub fn after_fetch(alloc: Global, call: &mut LxCall) -> Result<(), NoMemory>
     ensures ok { OnOk result (call.new ≡ fetched call.old) }
     ensures err { OnErr result (call.new ≡ call.old) }
@@ -131,6 +172,60 @@ pub fn after_fetch(alloc: Global, call: &mut LxCall) -> Result<(), NoMemory>
     match Call::new(call.number) {
         Some(Call::Readv) if call.fetched == 1 => take_vectors(alloc, call),
         Some(Call::Writev) if call.fetched == 1 => take_vectors(alloc, call),
+        Some(Call::Futex) => {
+            futex_fetched(call);
+            Ok(())
+        }
+        Some(Call::Nanosleep) => {
+            timeout_fetched(call);
+            Ok(())
+        }
+        Some(Call::Exit) => death_fetched(alloc, call),
         _ => Ok(()),
+    }
+}
+
+/// A call whose piece can't be read: it is refused (EFAULT), but for a death, which goes on, and for rt_sigreturn, which has
+/// nothing left to do. Where memory is wanting, nothing changes.
+pub fn miss_fetch(alloc: Global, call: &mut LxCall) -> Result<(), NoMemory>
+    ensures ok { OnOk result (call.new ≡ not_fetched call.old) }
+    ensures err { OnErr result (call.new ≡ call.old) }
+{
+    match Call::new(call.number) {
+        Some(Call::Exit) => return death_not_fetched(alloc, call),
+        Some(Call::RtSigreturn) => call.pieces.clear(),
+        _ => call.refuse(LinuxErrno::EFAULT),
+    }
+    Ok(())
+}
+
+/// The signals that a call blocks for its time, once it has fetched them (sigsuspend(2), epoll_pwait(2)).
+pub fn mask_of(call: &LxCall) -> Option<u64>
+    ensures { result ≡ mask_of call.now }
+{
+    match Call::new(call.number) {
+        Some(Call::RtSigsuspend) => Some(blockable(fetched_mask(call))),
+        Some(Call::EpollPwait) => Some(blockable(fetched_mask(call))),
+        _ => None,
+    }
+}
+
+/// A call after a piece was stored: a death goes on.
+pub fn after_store(call: &mut LxCall)
+    ensures { call.new ≡ written call.old }
+{
+    if let Some(Call::Exit) = Call::new(call.number) {
+        death_stored(call);
+    }
+}
+
+/// A call whose piece can't be written: it is refused (EFAULT), but for a death and for a clone, which go on.
+pub fn miss_store(call: &mut LxCall)
+    ensures { call.new ≡ not_written call.old }
+{
+    match Call::new(call.number) {
+        Some(Call::Exit) => death_stored(call),
+        Some(Call::Clone) => clone_not_stored(call),
+        _ => call.refuse(LinuxErrno::EFAULT),
     }
 }

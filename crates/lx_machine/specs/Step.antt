@@ -11,6 +11,7 @@ use Rattle.lx_machine.specs.Memory.{is_allowed}
 use Rattle.lx_machine.specs.declared.state.LinuxState.{LinuxState}
 use Rattle.lx_machine.specs.Threads.{with_thread, without_thread, without_call, in_call_of}
 use Rattle.lx_machine.specs.Instructions.{instruction, stored}
+use Rattle.lx_machine.specs.Interests.{side_holds, drained_side}
 use Rattle.lx_machine.specs.declared.calls.LxCall.{LxCall}
 use Rattle.lx_machine.specs.declared.calls.Piece.{Piece}
 use Rattle.lx_machine.specs.declared.calls.Stage.{Stage}
@@ -23,7 +24,6 @@ use Rattle.lx_machine.specs.declared.futexes.Mark.{Mark}
 use Rattle.lx_machine.specs.declared.label.Label.{Label}
 use Rattle.lx_machine.specs.declared.label.Label.TheVariants as label
 use Rattle.lx_machine.specs.declared.label.LxSide.{LxSide}
-use Rattle.lx_machine.specs.declared.label.LxSide.TheVariants as side
 use Rattle.lx_machine.specs.declared.label.PendingList.{PendingList}
 use Rattle.lx_machine.specs.declared.label.Pick.{Pick}
 use Rattle.lx_machine.specs.declared.threads.LxThread.{LxThread}
@@ -45,7 +45,7 @@ OfThread = LinuxState → ℕ → LxThread → Option LinuxState
 -- call does next; `fetched`, a call behind whose bytes those of a piece have come; `not_fetched`, one whose piece can't be
 -- read; `mask`, the signals that it then blocks for its time; `written` and `not_written`, a call after a piece was stored, and
 -- one whose piece can't be written.
--- Of a thread in a call, the steps that the labels name; and of a thread, Take, Frame and Kill
+-- Of a thread in a call, the steps that the labels name; and of a thread Return, Take, Frame and Kill
 pub record Effects : Type 0 where
   pub enter : ℕ → LxCall → LxCall
   pub stage : LxCall → Stage
@@ -70,12 +70,11 @@ pub record Effects : Type 0 where
   pub start : InCall
   pub leave : InCall
   pub gone : InCall
-  pub return : Option (PendingList × LinuxSig) → InCall
+  pub return : Option (PendingList × LinuxSig) → OfThread
   pub take : PendingList → LinuxSig → OfThread
   pub frame : OfThread
   pub kill : OfThread
   pub kill_in_call : InCall
-  pub drained : LinuxState → LxSide → LinuxState
 
 -- ---- threads that may step
 
@@ -196,10 +195,6 @@ abbrev pub gone : Effects → Stage → InCall
 gone E stage.Gone L s t c = E.gone L s t c
 gone E _ L s t c = None
 
-abbrev pub return_of : Effects → Option (PendingList × LinuxSig) → Stage → InCall
-return_of E named stage.Return L s t c = E.return named L s t c
-return_of E named _ L s t c = None
-
 -- ---- Kill: of a thread that is doomed, and of one whose call says so
 
 abbrev pub kill_in_call : Effects → Stage → InCall
@@ -214,16 +209,8 @@ kill_of E L s t = if t.is_doomed then E.kill L s t else of_call E.stage (kill_in
 abbrev pub at_time : LinuxState → ℕ → Option LinuxState
 at_time L t = if nat_lt L.clock t then Some (record L { clock = t }) else None
 
-abbrev pub room_of : LinuxState → LxSide → List ℕ
-room_of L side.Out = L.files.out
-room_of L side.Err = L.files.err
-
-abbrev pub without_bytes : LinuxState → LxSide → ℕ → LinuxState
-without_bytes L side.Out n = record L { files = record L.files { out = drop n L.files.out } }
-without_bytes L side.Err n = record L { files = record L.files { err = drop n L.files.err } }
-
-abbrev pub drain : Effects → LinuxState → LxSide → ℕ → Option LinuxState
-drain E L which n = if nat_le 1 n && nat_le n (length (room_of L which)) then Some (E.drained (without_bytes L which n) which) else None
+abbrev pub drain : LinuxState → LxSide → ℕ → Option LinuxState
+drain L which n = if nat_le 1 n && nat_le n (length (side_holds L.files which)) then Some (record L { files = drained_side L.files which n }) else None
 
 -- ---- LStep and LRun
 
@@ -247,12 +234,12 @@ step_of E L (label.Interrupt s list sig) = in_call E.stage L s (E.interrupt list
 step_of E L (label.Start s) = in_call E.stage L s (start E)
 step_of E L (label.Leave s) = in_call E.stage L s (leave E)
 step_of E L (label.Gone s) = in_call E.stage L s (gone E)
-step_of E L (label.Return s named) = in_call E.stage L s (return_of E named)
+step_of E L (label.Return s named) = on_thread L s (E.return named)
 step_of E L (label.Take s list sig) = on_thread L s (E.take list sig)
 step_of E L (label.Frame s) = on_thread L s E.frame
 step_of E L (label.Kill s) = on_thread L s (kill_of E)
 step_of E L (label.Time t) = at_time L t
-step_of E L (label.Drain which n) = drain E L which n
+step_of E L (label.Drain which n) = drain L which n
 
 -- a guest that has ended takes no step
 abbrev pub unless_ended : Option GuestEnd → Option LinuxState → Option LinuxState

@@ -11,8 +11,8 @@ use Rattle.page_store.specs.Pages.{Pages}
 use Rattle.lx_machine.specs.Lists.{bind}
 use Rattle.lx_machine.specs.Calls.{argument}
 use Rattle.lx_machine.specs.Memory.{all_mapped}
-use Rattle.lx_machine.specs.Signals.{has_signal, may_take, has_unblocked, without_signal, first_info}
-use Rattle.lx_machine.specs.Step.{default_action, is_user}
+use Rattle.lx_machine.specs.Signals.{default_action, has_signal, may_take, has_unblocked, without_signal, first_info}
+use Rattle.lx_machine.specs.Step.{is_user}
 use Rattle.lx_machine.specs.declared.calls.LxCall.{LxCall}
 use Rattle.lx_machine.specs.declared.calls.Stage.{Stage}
 use Rattle.lx_machine.specs.declared.calls.Stage.TheVariants as stage

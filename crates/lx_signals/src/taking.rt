@@ -12,7 +12,7 @@ use lx_machine::label::PendingList;
 use lx_machine::memory::all_mapped;
 use lx_machine::refusal::LxRefusal;
 use lx_machine::signals::{Action, Kept, Origin, Pending, SigInfo, Taken, has_signal};
-use lx_machine::threads::LxThread;
+use lx_machine::threads::{Life, LxThread};
 use lx_memory::Memory;
 
 /// A signal that a step names: the list in which it stands, and which it is.
@@ -510,7 +510,9 @@ fn force(
 fn is_user(thread: &LxThread) -> bool
     ensures { result ≡ is_user thread.now }
 {
-    thread.call.is_none() && thread.trap.is_none() && thread.taken.is_none() && !thread.is_doomed
+    matches!(thread.life, Life::Live)
+        && thread.call.is_none()
+        && thread.trap.is_none() && thread.taken.is_none() && !thread.is_doomed
 }
 
 /// Take, of a thread: the signal of its trap, named as its own, and else a pending signal of a thread in no call (signal(7)).
