@@ -10,6 +10,8 @@ use Rattle.lx_machine.specs.declared.state.LinuxState.{LinuxState}
 use Rattle.lx_machine.specs.Threads.{in_call_of, after_write}
 use Rattle.lx_machine.specs.Step.{Effects, InCall, LStep, LRun}
 use Rattle.lx_machine.specs.declared.calls.LxCall.{LxCall}
+use Rattle.lx_machine.specs.declared.files.Files.{Files}
+use Rattle.lx_machine.specs.declared.space.Space.{Space}
 use Rattle.lx_machine.specs.declared.label.Label.{Label}
 use Rattle.lx_machine.specs.declared.threads.LxThread.{LxThread}
 use Rattle.lx_calls.specs.Entry.{entered}
@@ -33,44 +35,64 @@ use Rattle.lx_calls.specs.ProcessCalls.{own_id, uname, set_tid_address, exit_gro
 abbrev pub on_space : LinuxState → ℕ → LxThread → memory.Outcome → LinuxState
 on_space L s t o = in_call_of (record L { space = o.space; threads = after_write s (o.first * 4096) (o.count * 4096) L.threads }) s t o.call
 
+-- ---- Effect, where memory is ample: of a call on files, on memory, or on its thread
+
+abbrev pub files_call : Files → LxCall → Call → Option descriptors.Outcome
+files_call F c call.Eventfd2 = Some (descriptors.eventfd2 F c)
+files_call F c call.Dup = Some (descriptors.dup F c)
+files_call F c call.Dup3 = Some (descriptors.dup3 F c)
+files_call F c call.Fcntl = Some (descriptors.fcntl F c)
+files_call F c call.Ioctl = Some (descriptors.ioctl F c)
+files_call F c call.Close = Some (descriptors.close F c)
+files_call F c call.Pipe2 = Some (descriptors.pipe2 F c)
+files_call F c call.Lseek = Some (descriptors.lseek F c)
+files_call F c call.EpollCreate1 = Some (epoll_create1 F c)
+files_call F c call.EpollCtl = Some (epoll_ctl F c)
+files_call F c _ = None
+
+abbrev pub file_effect : LinuxState → ℕ → LxThread → LxCall → Call → Option LinuxState
+file_effect L s t c k = option_map (on_files L s t) (files_call L.files c k)
+
+abbrev pub memory_call : Space → LxCall → Call → Option memory.Outcome
+memory_call S c call.Brk = Some (memory.brk S c)
+memory_call S c call.Mmap = Some (memory.mmap S c)
+memory_call S c call.Munmap = Some (memory.munmap S c)
+memory_call S c call.Mprotect = Some (memory.mprotect S c)
+memory_call S c call.Madvise = Some (memory.madvise S c)
+memory_call S c _ = None
+
+abbrev pub memory_effect : LinuxState → ℕ → LxThread → LxCall → Call → Option LinuxState
+memory_effect L s t c k = option_map (on_space L s t) (memory_call L.space c k)
+
 -- a call that answers a number and does no more
 abbrev pub on_call : LinuxState → ℕ → LxThread → LxCall → ℕ → LinuxState
 on_call L s t c n = in_call_of L s t (answered c n)
 
--- what a call does, where memory is ample
+abbrev pub thread_effect : LinuxState → ℕ → LxThread → LxCall → Call → Option LinuxState
+thread_effect L s t c call.SetTidAddress = Some (set_tid_address L s t c)
+thread_effect L s t c call.ExitGroup = Some (exit_group L s t c)
+thread_effect L s t c call.Uname = Some (in_call_of L s t (uname c))
+thread_effect L s t c call.SchedYield = Some (on_call L s t c 0)
+thread_effect L s t c call.Getppid = Some (on_call L s t c 1)
+thread_effect L s t c call.Gettid = Some (on_call L s t c t.tid)
+thread_effect L s t c call.Getpid = Some (on_call L s t c own_id)
+thread_effect L s t c call.Getuid = Some (on_call L s t c own_id)
+thread_effect L s t c call.Geteuid = Some (on_call L s t c own_id)
+thread_effect L s t c call.Getgid = Some (on_call L s t c own_id)
+thread_effect L s t c call.Getegid = Some (on_call L s t c own_id)
+thread_effect L s t c call.SetRobustList = Some (in_call_of L s (with_robust_list t c) (set_robust_list c))
+thread_effect L s t c call.Sigaltstack =
+    Some (in_call_of L s (record t { alt_stack = sigaltstack_stack t.regs.sp t.alt_stack c }) (sigaltstack_call t.regs.sp t.alt_stack c))
+thread_effect L s t c call.RtSigprocmask =
+    Some (in_call_of L s (record t { mask = sigprocmask_mask t.mask c }) (sigprocmask_call t.mask c))
+thread_effect L s t c call.RtSigpending = Some (in_call_of L s t (sigpending_call t.mask t.pending L.pending c))
+thread_effect L s t c call.RtSigreturn =
+    Some (in_call_of L s (record t { regs = sigreturn_regs t.regs c; mask = sigreturn_mask c }) (sigreturn_call c))
+thread_effect L s t c _ = None
+
+-- of which a call has one
 abbrev pub effect_of : LinuxState → ℕ → LxThread → LxCall → Call → Option LinuxState
-effect_of L s t c call.Eventfd2 = Some (on_files L s t (descriptors.eventfd2 L.files c))
-effect_of L s t c call.Dup = Some (on_files L s t (descriptors.dup L.files c))
-effect_of L s t c call.Dup3 = Some (on_files L s t (descriptors.dup3 L.files c))
-effect_of L s t c call.Fcntl = Some (on_files L s t (descriptors.fcntl L.files c))
-effect_of L s t c call.Ioctl = Some (on_files L s t (descriptors.ioctl L.files c))
-effect_of L s t c call.Close = Some (on_files L s t (descriptors.close L.files c))
-effect_of L s t c call.Pipe2 = Some (on_files L s t (descriptors.pipe2 L.files c))
-effect_of L s t c call.Lseek = Some (on_files L s t (descriptors.lseek L.files c))
-effect_of L s t c call.Brk = Some (on_space L s t (memory.brk L.space c))
-effect_of L s t c call.Mmap = Some (on_space L s t (memory.mmap L.space c))
-effect_of L s t c call.Munmap = Some (on_space L s t (memory.munmap L.space c))
-effect_of L s t c call.Mprotect = Some (on_space L s t (memory.mprotect L.space c))
-effect_of L s t c call.Madvise = Some (on_space L s t (memory.madvise L.space c))
-effect_of L s t c call.SetTidAddress = Some (set_tid_address L s t c)
-effect_of L s t c call.ExitGroup = Some (exit_group L s t c)
-effect_of L s t c call.Uname = Some (in_call_of L s t (uname c))
-effect_of L s t c call.SchedYield = Some (on_call L s t c 0)
-effect_of L s t c call.Getppid = Some (on_call L s t c 1)
-effect_of L s t c call.Gettid = Some (on_call L s t c t.tid)
-effect_of L s t c call.Getpid = Some (on_call L s t c own_id)
-effect_of L s t c call.Getuid = Some (on_call L s t c own_id)
-effect_of L s t c call.Geteuid = Some (on_call L s t c own_id)
-effect_of L s t c call.Getgid = Some (on_call L s t c own_id)
-effect_of L s t c call.Getegid = Some (on_call L s t c own_id)
-effect_of L s t c call.EpollCreate1 = Some (on_files L s t (epoll_create1 L.files c))
-effect_of L s t c call.EpollCtl = Some (on_files L s t (epoll_ctl L.files c))
-effect_of L s t c call.SetRobustList = Some (in_call_of L s (with_robust_list t c) (set_robust_list c))
-effect_of L s t c call.Sigaltstack = Some (in_call_of L s (record t { alt_stack = sigaltstack_stack t.regs.sp t.alt_stack c }) (sigaltstack_call t.regs.sp t.alt_stack c))
-effect_of L s t c call.RtSigprocmask = Some (in_call_of L s (record t { mask = sigprocmask_mask t.mask c }) (sigprocmask_call t.mask c))
-effect_of L s t c call.RtSigpending = Some (in_call_of L s t (sigpending_call t.mask t.pending L.pending c))
-effect_of L s t c call.RtSigreturn = Some (in_call_of L s (record t { regs = sigreturn_regs t.regs c; mask = sigreturn_mask c }) (sigreturn_call c))
-effect_of L s t c _ = None
+effect_of L s t c k = option_or (file_effect L s t c k) (option_or (memory_effect L s t c k) (thread_effect L s t c k))
 
 -- what a call does where memory runs short
 abbrev pub short_effect : LinuxState → ℕ → LxThread → LxCall → Call → Option LinuxState

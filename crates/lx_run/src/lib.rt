@@ -5,8 +5,12 @@
 
 pub mod access;
 pub mod file_steps;
+pub mod futex_steps;
 pub mod instruction;
+pub mod life_steps;
+pub mod own_effects;
 pub mod pieces;
 pub mod slots;
 pub mod state;
 pub mod threads;
+pub mod wait_steps;

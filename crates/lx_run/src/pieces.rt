@@ -10,8 +10,8 @@ ghost use Rattle.lx_calls.specs.Table.{effects};
 ghost use Rattle.lx_run.specs.CallSteps.{CallGoes};
 
 use crate::threads::unmark;
-use linux_abi::{Call, LinuxErrno};
-use lx_calls::shape::after_fetch;
+use linux_abi::Call;
+use lx_calls::shape::{after_fetch, after_store, mask_of, miss_fetch, miss_store};
 use lx_machine::buffer::{Bytes, NoMemory, ROOM};
 use lx_machine::calls::{LxCall, Piece, Pieces, Stage};
 use lx_machine::memory::is_allowed;
@@ -88,8 +88,8 @@ fn append_fetched(call: &mut LxCall, more: &[u8]) -> Result<(), NoMemory>
     Ok(())
 }
 
-/// The bytes of vectors come, which are read. Where memory is wanting, nothing changes.
-fn fetch_vectors(alloc: Global, call: &mut LxCall, more: &[u8]) -> Result<(), NoMemory>
+/// The bytes of the first piece come, and the call looks at them. Where memory is wanting, nothing changes.
+fn fetch_into_copy(alloc: Global, call: &mut LxCall, more: &[u8]) -> Result<(), NoMemory>
     ensures ok { OnOk result (call.new ≡ fetched (with_fetched call.old more.now)) }
     ensures err { OnErr result (call.new ≡ call.old) }
 {
@@ -105,9 +105,9 @@ fn take_fetched(alloc: Global, call: &mut LxCall, more: &[u8]) -> Result<(), NoM
     ensures err { OnErr result (call.new ≡ call.old) }
 {
     match Call::new(call.number) {
-        Some(Call::Readv) if call.fetched == 0 => fetch_vectors(alloc, call, more),
-        Some(Call::Writev) if call.fetched == 0 => fetch_vectors(alloc, call, more),
-        _ => append_fetched(call, more),
+        Some(Call::Write) => append_fetched(call, more),
+        Some(Call::Writev) if call.fetched != 0 => append_fetched(call, more),
+        _ => fetch_into_copy(alloc, call, more),
     }
 }
 
@@ -116,6 +116,16 @@ fn first(bytes: &[u8], len: u64) -> &[u8]
     ensures { result.now ≡ take len bytes.now }
 {
     &bytes[..len.min(bytes.len() as u64) as usize]
+}
+
+/// A call that uses a mask for its time: the thread gets its own back when the call returns.
+fn mask_for_call(thread: &mut LxThread, mask: Option<u64>)
+    ensures { thread.new ≡ masked mask thread.old }
+{
+    if let Some(mask) = mask {
+        thread.saved_mask = Some(thread.mask);
+        thread.mask = mask;
+    }
 }
 
 /// Fetch of this piece.
@@ -131,14 +141,16 @@ fn fetch_piece(
     ensures err { OnErr result ((thread.new ≡ thread.old) × (call.new ≡ call.old)) }
 {
     if !is_allowed(&state.space.pages, Right::Read, p.at, p.len) {
-        call.refuse(LinuxErrno::EFAULT);
-        return Ok(());
+        return miss_fetch(alloc, call);
     }
     let bytes = bytes_in(alloc, &state.space.pages, p.at, p.len)?;
-    take_fetched(alloc, call, &bytes)
+    take_fetched(alloc, call, &bytes)?;
+    mask_for_call(thread, mask_of(call));
+    Ok(())
 }
 
-/// Fetch: the next piece is copied in, or where any byte can't be read, the call is refused (read(2), EFAULT).
+/// Fetch: the next piece is copied in, or where any byte can't be read, the call is refused (read(2), EFAULT) or,
+/// as a death, goes on.
 pub fn fetch(
     state: &LinuxState,
     alloc: Global,
@@ -163,7 +175,7 @@ fn store_piece(state: &mut LinuxState, slot: u8, thread: &LxThread, call: &mut L
     ensures { machine.store_of effects p state.old slot thread.now call.old ≡ in_call_of state.new slot thread.now call.new }
 {
     if !is_allowed(&state.space.pages, Right::Write, p.at, p.len) {
-        call.refuse(LinuxErrno::EFAULT);
+        miss_store(call);
         return;
     }
     let bytes = first(call.bytes.as_slice(), p.len);
@@ -172,10 +184,11 @@ fn store_piece(state: &mut LinuxState, slot: u8, thread: &LxThread, call: &mut L
     unmark(state, slot, u128::from(p.at), count);
     call.bytes.drop_first(p.len as usize);
     call.pieces.remove_first();
+    after_store(call);
 }
 
 /// Store: the first bytes that are left are copied out to the next piece, or where any byte can't be written, the call is
-/// refused (read(2), EFAULT). What is written ends the marks of other threads.
+/// refused (read(2), EFAULT) or, as a death or a clone, goes on. What is written ends the marks of other threads.
 pub fn store(
     state: &mut LinuxState,
     slot: u8,

@@ -7,7 +7,7 @@ ghost use Rattle.lx_calls.specs.Shape.{stage_of};
 ghost use Rattle.lx_run.specs.CallSteps.{call_step, CallGoes, ThreadGoes};
 ghost use Rattle.lx_run.specs.Steps.{Steps};
 
-use crate::{file_steps, pieces};
+use crate::{file_steps, futex_steps, life_steps, own_effects, pieces, wait_steps};
 use lx_calls::shape::stage_of;
 use lx_machine::calls::{LxCall, Stage};
 use lx_machine::label::Label;
@@ -34,6 +34,25 @@ fn step_call(
         Label::Store(_) => pieces::store(state, slot, thread, call, stage),
         Label::Hold(_) => file_steps::hold(state, slot, thread, call, stage),
         Label::Drop(_) => file_steps::let_go(state, slot, thread, call, stage),
+        Label::Effect(_, short) => {
+            own_effects::effect(state, alloc, slot, thread, call, stage, *short)
+        }
+        Label::Move(_, picks) => {
+            file_steps::move_bytes(state, alloc, slot, thread, call, stage, picks)
+        }
+        Label::Clock(_) => wait_steps::clock(state, alloc, slot, thread, call, stage),
+        Label::Queue(_) => futex_steps::queue(state, slot, thread, call, stage),
+        Label::Requeue(_) => futex_steps::requeue(state, slot, thread, call, stage),
+        Label::WakeOp(_) => futex_steps::wake_op(state, slot, thread, call, stage),
+        Label::Mark(_) => futex_steps::mark(state, alloc, slot, thread, call, stage),
+        Label::Release(_) => futex_steps::release(state, slot, thread, call, stage),
+        Label::Resume(_) => futex_steps::resume(state, slot, thread, call, stage),
+        Label::Expire(_) => wait_steps::expire(state, slot, thread, call, stage),
+        Label::Interrupt(_, list, signal) => {
+            wait_steps::interrupt(state, alloc, slot, thread, call, stage, *list, *signal)
+        }
+        Label::Start(_) => life_steps::start(state, slot, thread, call, stage),
+        Label::Leave(_) => life_steps::leave(state, alloc, slot, thread, call, stage),
         _ => Err(LxRefusal::NoStep),
     }
 }

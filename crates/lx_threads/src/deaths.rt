@@ -410,6 +410,18 @@ fn mark_own(pages: &mut Memory, queue: &mut Queue, mark: Mark) -> MarkDone
     }
 }
 
+/// Whether Mark of this word meets a fault: it may not be read, or is the thread's and may not be written.
+pub fn mark_faults(pages: &Memory, tid: u32, queue: &Queue, mark: Mark) -> bool
+    ensures { result ≡ (marked pages.now tid queue.now mark).fault }
+{
+    let _queue = queue;
+    match readable_word(pages, mark.at) {
+        Some(word) if owner(word) == tid => writable_word(pages, mark.at).is_none(),
+        Some(_) => false,
+        None => true,
+    }
+}
+
 /// Marks a word where the thread owns it (get_robust_list(2)).
 pub fn marked(pages: &mut Memory, tid: u32, queue: &mut Queue, mark: Mark) -> MarkDone
     ensures { marked pages.old tid queue.old mark ≡ record { pages = pages.new; queue = queue.new; fault = result.fault; at = result.written.at; written = result.written.len } }
