@@ -10,3 +10,5 @@ pub mod sending;
 pub mod sigreturn;
 pub mod stacks;
 pub mod taking;
+#[cfg(test)]
+mod tests;
