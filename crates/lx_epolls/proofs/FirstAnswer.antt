@@ -1,5 +1,5 @@
 -- Where no two interests have the same name, the first due ones are an answer.
-use Rattle.std.proofs.Common.{◌≡◌, ℕ, ◌-◌, ◌==◌, ◌<◌, ◌≤◌, min, is_some, Bool, true, false, ◌&&◌, ◌||◌, not, nat_le, nat_lt, List, [], ◌∷◌, length, Option, Some, None, if◌then◌else◌, refl, arith}
+use Rattle.std.proofs.Common.{◌≡◌, ℕ, ◌-◌, ◌==◌, ◌<◌, ◌≤◌, min, is_some, true, false, List, [], ◌∷◌, length, Option, Some, None, refl, arith}
 use Rattle.std.specs.List.{list_any}
 use Rattle.std.proofs.lemmas.Bool.Decides.{nat_tests}
 use Rattle.lx_machine.specs.Lists.{bind, at_place}
@@ -8,8 +8,8 @@ use Rattle.lx_machine.specs.declared.calls.LxCall.{LxCall}
 use Rattle.lx_machine.specs.declared.files.Files.{Files}
 use Rattle.lx_machine.specs.declared.files.Interest.{Interest}
 use Rattle.lx_machine.specs.declared.label.Pick.{Pick}
-use Rattle.lx_machine.specs.Interests.{is_named, stands, is_picked}
-use Rattle.lx_epolls.specs.Epolls.{most_of, epoll_number, interests_in, interests_of, reports_if, reports_of, epoll_moved, epoll_can_move, held_epoll, first_picks, is_due, named, is_due_interest, are_due, is_same, are_distinct, is_left, is_answer, pick_of, first_due, are_apart}
+use Rattle.lx_machine.specs.Interests.{stands, is_picked}
+use Rattle.lx_epolls.specs.Epolls.{most_of, epoll_number, interests_in, interests_of, reports_if, reports_of, epoll_moved, epoll_can_move, held_epoll, first_picks, is_due, named, are_due, is_same, are_distinct, is_left, is_answer, pick_of, first_due, are_apart}
 
 same_turns : (a b : ℕ) → (a == b) ≡ (b == a)
 same_turns a b = grind (arith, nat_tests)
