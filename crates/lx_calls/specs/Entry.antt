@@ -1,6 +1,6 @@
 -- How SVC enters a call: the refusals that need no look at the machine, in their order. Source: the manual page of each
 -- call; which flags there are is that of Linux for arm64.
-use Rattle.std.specs.Prelude.{ℕ, ◌+◌, ◌*◌, ◌/◌, ◌%◌, ◌^◌, ◌==◌, Bool, ◌&&◌, ◌||◌, nat_lt, if◌then◌else◌, List, [], ◌∷◌, Option, Some, None, is_some}
+use Rattle.std.specs.Prelude.{ℕ, ◌+◌, ◌*◌, ◌/◌, ◌%◌, ◌^◌, ◌==◌, Bool, ◌&&◌, ◌||◌, nat_lt, List, [], ◌∷◌, Option, Some, None, is_some}
 use Rattle.std.proofs.Math.Bool.{not}
 use Rattle.linux_abi.specs.Call.{call_of}
 use Rattle.linux_abi.specs.Advice.{advice_of}

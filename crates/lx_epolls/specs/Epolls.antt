@@ -390,6 +390,11 @@ first_due F most (i ∷ is) =
 abbrev pub first_picks : Files → LxCall → List Pick
 first_picks F c = first_due F (most_of c) (interests_of F (held_epoll F c))
 
+-- no two interests have the same name
+abbrev pub are_apart : List Interest → Bool
+are_apart [] = true
+are_apart (i ∷ is) = not (stands i.file i.descriptor is) && are_apart is
+
 -- Expire: the call answers 0
 abbrev pub epoll_expired : Files → LxCall → Option Outcome
 epoll_expired F c = bind c.held (λ file. Some (lets_epoll_go F (answered c 0) file))

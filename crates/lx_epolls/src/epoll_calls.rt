@@ -1,5 +1,5 @@
 //! The calls that make, change and wait for epolls (epoll_create1(2), epoll_ctl(2), epoll_wait(2)).
-ghost use Rattle.std.specs.Prelude.{◌≡◌, ◌≤◌, ◌<◌, ◌*◌, ◌+◌, ◌==◌, ◌++◌, ◌∷◌, [], length, slice_set, Some, None, is_some, IfOk, OnOk, OnErr};
+ghost use Rattle.std.specs.Prelude.{◌≡◌, ◌≤◌, ◌<◌, ◌*◌, ◌+◌, ◌==◌, ◌++◌, ◌∷◌, [], length, slice_set, true, Some, None, is_some, IfOk, OnOk, OnErr};
 ghost use Rattle.std.specs.Option.{option_map};
 ghost use Rattle.places.specs.Places.{number_at};
 ghost use Rattle.lx_machine.specs.Lists.{bind, at_place};
@@ -8,7 +8,7 @@ ghost use Rattle.lx_machine.specs.Calls.{argument, low_argument, answered, refus
 ghost use Rattle.lx_machine.specs.Interests.{after_report, stands, changed, without_interest};
 ghost use Rattle.lx_files.specs.Files.{descriptor, with_hold, given_back};
 ghost use Rattle.lx_files.specs.Descriptors.{outcome, refuses, has_cloexec};
-ghost use Rattle.lx_epolls.specs.Epolls.{epoll_create_refusals, epoll_create_at, epoll_create_numbers, epoll_create1, control_of, epoll_ctl_refusals, event_pieces, epoll_ctl_pieces, epoll_ctl_stage_of, epoll_ctl_stage, kind_of, epoll_number, epoll_of, file_of, interests_in, interests_of, asked_of, data_of, fetched_number, is_exclusive, is_add, stands_in, descriptor_refusals, interest_refusals, or_else, control_refusal, new_interest, controlled, on_epoll, control, epoll_ctl_unless, epoll_ctl, is_not_positive, epoll_pwait_refusals, epoll_pwait_pieces, has_timeout, epoll_pwait_clock, epoll_pwait_held, epoll_pwait_stage, with_timeout, hold_epoll, epoll_held_file, epoll_held, lets_epoll_go, held_epoll, first_picks, most_of, events, is_answer, reports, reports_if, reports_of, epoll_moved, Makes, epoll_can_move, epoll_expired, epoll_interrupted};
+ghost use Rattle.lx_epolls.specs.Epolls.{epoll_create_refusals, epoll_create_at, epoll_create_numbers, epoll_create1, control_of, epoll_ctl_refusals, event_pieces, epoll_ctl_pieces, epoll_ctl_stage_of, epoll_ctl_stage, kind_of, epoll_number, epoll_of, file_of, interests_in, interests_of, asked_of, data_of, fetched_number, is_exclusive, is_add, stands_in, descriptor_refusals, interest_refusals, or_else, control_refusal, new_interest, controlled, on_epoll, control, epoll_ctl_unless, epoll_ctl, is_not_positive, epoll_pwait_refusals, epoll_pwait_pieces, has_timeout, epoll_pwait_clock, epoll_pwait_held, epoll_pwait_stage, with_timeout, hold_epoll, epoll_held_file, epoll_held, lets_epoll_go, held_epoll, first_picks, are_apart, most_of, events, is_answer, reports, reports_if, reports_of, epoll_moved, Makes, epoll_can_move, epoll_expired, epoll_interrupted};
 ghost use Rattle.lx_epolls.specs.Epolls as epolls;
 
 use crate::epolls::{append_events, has_due, is_answer, push_due, told};
@@ -513,9 +513,12 @@ pub fn epoll_can_move(files: &Files, call: &LxCall) -> bool
     has_due(files, interests_of(files, held_epoll(files, call)))
 }
 
-/// What the epoll that the call holds can report first: its first due interests, as many as the call takes.
+/// What the epoll that the call holds can report first: its first due interests, as many as the call takes. Where no two
+/// interests have the same name, and something is to be reported, these are an answer.
+#[tactic(auto, using(crate::proofs::FirstAnswer::moves))]
 pub fn first_picks(alloc: Global, files: &Files, call: &LxCall) -> Result<Picks, NoMemory>
-    ensures { IfOk result (λ picks. picks ≡ first_picks files.now call.now) }
+    ensures value { IfOk result (λ picks. picks ≡ first_picks files.now call.now) }
+    ensures moves { IfOk result (λ picks. are_apart (interests_of files.now (held_epoll files.now call.now)) ≡ true → 0 < low_argument call.now 2 → epoll_can_move files.now call.now ≡ true → is_some (epoll_moved files.now call.now picks) ≡ true) }
 {
     let interests = interests_of(files, held_epoll(files, call));
     let mut picks = Vec::new(alloc);

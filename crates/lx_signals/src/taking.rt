@@ -177,8 +177,8 @@ fn found_among(mask: u64, infos: &Pending, signal: LinuxSig) -> Option<SigInfo>
     }
 }
 
-/// The pending signal of this number, if a thread with this mask may take it from the list.
-fn found(
+/// The pending signal of this number, if a thread with this mask may take it from the list (signal(7)).
+pub fn found(
     mask: u64,
     own: &Pending,
     shared: &Pending,
@@ -406,8 +406,8 @@ pub fn return_thread(
     return_with(restarts, actions, thread, shared, first, n, named, kept)
 }
 
-/// The signal leaves its list.
-fn remove_from(thread: &mut LxThread, shared: &mut Pending, list: PendingList, info: SigInfo)
+/// The signal leaves its list, the thread's own or the shared one.
+pub fn remove_from(thread: &mut LxThread, shared: &mut Pending, list: PendingList, info: SigInfo)
     ensures thread { thread.new ≡ (spec.kept_from thread.old shared.old list info).thread }
     ensures shared { shared.new ≡ (spec.kept_from thread.old shared.old list info).pending }
 {
