@@ -31,8 +31,8 @@ whole L c = record { state = L; call = c }
 abbrev pub clone_outcome : LinuxState → Cloned → Whole
 clone_outcome L o = whole (record L { threads = o.threads; next_tid = o.next_tid }) o.call
 
-abbrev pub clone : LinuxState → LxThread → LxCall → Whole
-clone L t c = clone_outcome L (cloned L.threads L.next_tid t.mask c)
+abbrev pub clone : LinuxState → ℕ → LxCall → Whole
+clone L mask c = clone_outcome L (cloned L.threads L.next_tid mask c)
 
 -- kill, tkill and tgkill: what is sent
 abbrev pub send : LinuxState → LxCall → Sending → Whole
@@ -47,14 +47,15 @@ forgets (Some sig) L = record L { threads = forgotten sig L.threads; pending = w
 abbrev pub sigaction : LinuxState → LxCall → Whole
 sigaction L c = whole (forgets (sigaction_forgets c) (record L { actions = sigaction_actions L.actions c })) (sigaction_call L.actions c)
 
-abbrev pub whole_call : LinuxState → LxThread → LxCall → Option Call → Option Whole
-whole_call L t c (Some call.Clone) = Some (clone L t c)
-whole_call L t c (Some call.GetRobustList) = Some (whole L (get_robust_list L.threads t.robust_head c))
-whole_call L t c (Some call.Kill) = Some (send L c (kill_sending (queued L.threads L.pending) c))
-whole_call L t c (Some call.Tkill) = Some (send L c (tkill_sending L.threads (queued L.threads L.pending) c))
-whole_call L t c (Some call.Tgkill) = Some (send L c (tgkill_sending L.threads (queued L.threads L.pending) c))
-whole_call L t c (Some call.RtSigaction) = Some (sigaction L c)
-whole_call L t c _ = None
+-- of a caller with this mask and this robust list
+abbrev pub whole_by : LinuxState → ℕ → ℕ → LxCall → Option Call → Option Whole
+whole_by L mask robust_head c (Some call.Clone) = Some (clone L mask c)
+whole_by L mask robust_head c (Some call.GetRobustList) = Some (whole L (get_robust_list L.threads robust_head c))
+whole_by L mask robust_head c (Some call.Kill) = Some (send L c (kill_sending (queued L.threads L.pending) c))
+whole_by L mask robust_head c (Some call.Tkill) = Some (send L c (tkill_sending L.threads (queued L.threads L.pending) c))
+whole_by L mask robust_head c (Some call.Tgkill) = Some (send L c (tgkill_sending L.threads (queued L.threads L.pending) c))
+whole_by L mask robust_head c (Some call.RtSigaction) = Some (sigaction L c)
+whole_by L mask robust_head c _ = None
 
 -- the thread in slot s, if there is one, stands so in this call
 abbrev pub call_put : List (Option LxThread) → ℕ → LxCall → List (Option LxThread)
@@ -65,4 +66,4 @@ put_whole s w = record w.state { threads = call_put w.state.threads s w.call }
 
 -- Effect of such a call, where the caller's place is free
 abbrev pub whole_effect : LinuxState → ℕ → LxThread → LxCall → Option LinuxState
-whole_effect L s t c = option_map (put_whole s) (whole_call (with_thread L s t) t c (call_of c.number))
+whole_effect L s t c = option_map (put_whole s) (whole_by (with_thread L s t) t.mask t.robust_head c (call_of c.number))

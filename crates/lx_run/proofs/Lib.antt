@@ -4,3 +4,5 @@ pub mod Filled
 pub mod Instructed
 pub mod Small
 pub mod PutBack
+pub mod WholeStepped
+pub mod Staged

@@ -1,5 +1,5 @@
 -- What is taken out of its place and put back changes nothing else.
-use Rattle.std.proofs.Common.{◌≡◌, ℕ, zero, suc, ◌≤◌, List, [], ◌∷◌, Option, Some, None, length, slice_set, refl, ap}
+use Rattle.std.proofs.Common.{◌≡◌, ℕ, zero, suc, ◌≤◌, List, [], ◌∷◌, Option, Some, None, length, slice_set, refl, ap, sym}
 use Rattle.std.proofs.lemmas.Option.{slice_get_past}
 use Rattle.std.specs.Prelude.{slice_get}
 use Rattle.lx_machine.specs.Lists.{at_place}
@@ -10,7 +10,7 @@ use Rattle.lx_machine.specs.declared.threads.LxThread.{LxThread}
 
 -- a call that is put back
 pub call_back : (t : LxThread) (c : LxCall) → t.call ≡ Some c → with_call (without_call t) c ≡ t
-call_back t c is = ap (λ (o : Option LxCall). record t { call = o }) (λ i. is (~ i))
+call_back t c is = ap (λ (o : Option LxCall). record t { call = o }) (sym is)
 
 -- a place that is made free and filled again with what was there
 set_again : (xs : List (Option LxThread)) (i : ℕ) (t : Option LxThread) → slice_get xs i ≡ Some t → slice_set (slice_set xs i None) i t ≡ xs

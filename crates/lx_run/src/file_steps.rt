@@ -1,13 +1,12 @@
 //! Hold, Drop and Move, of a transfer and of an epoll; and the effects of calls on descriptors.
 ghost use Rattle.std.specs.Prelude.{◌≡◌, ◌==◌, true, if◌then◌else◌};
-ghost use Rattle.std.specs.Option.{option_map};
 ghost use Rattle.lx_machine.specs.Signals.{action_of};
 ghost use Rattle.lx_machine.specs.Step as machine;
 ghost use Rattle.linux_abi.specs.declared.signals.LinuxSig.TheVariants as signal;
 ghost use Rattle.lx_calls.specs.Table.{effects, file_effect};
-ghost use Rattle.lx_calls.specs.Transfers.{moved, on_transfer, has_room_for_broken_pipe, with_broken_pipe};
+ghost use Rattle.lx_calls.specs.Transfers.{has_room_for_broken_pipe, with_broken_pipe};
 ghost use Rattle.lx_calls.specs.Waits.{move};
-ghost use Rattle.lx_run.specs.CallSteps.{CallGoes};
+ghost use Rattle.lx_run.specs.CallSteps.{CallGoes, move_of_transfer};
 
 use linux_abi::{Call, LinuxSig};
 use lx_calls::transfers;
@@ -83,7 +82,7 @@ fn move_transfer(
     thread: &mut LxThread,
     call: &mut LxCall,
 ) -> Result<(), LxRefusal>
-    ensures { CallGoes ((λ L s t c. option_map (on_transfer L s t) (moved L.files c)) state.old slot thread.old call.old) state.old state.new slot thread.old thread.new call.old call.new result }
+    ensures { CallGoes (move_of_transfer state.old slot thread.old call.old) state.old state.new slot thread.old thread.new call.old call.new result }
 {
     let is_ignored = ignores_broken_pipe(state);
     if !transfers::has_room_for_broken_pipe(&thread.pending, is_ignored) {

@@ -2,12 +2,15 @@
 ghost use Rattle.std.specs.Prelude.{◌≡◌, ◌<◌, slice_get, Some, None, IfSome};
 ghost use Rattle.lx_machine.specs.Lists.{at_place, without_place};
 ghost use Rattle.lx_machine.specs.Threads.{with_thread};
-ghost use Rattle.lx_machine.specs.Step.{in_call, of_call};
+ghost use Rattle.lx_machine.specs.Step as machine;
+ghost use Rattle.lx_machine.specs.Step.{on_thread, in_call, of_call};
+ghost use Rattle.lx_calls.specs.Table.{effects};
 ghost use Rattle.lx_calls.specs.Shape.{stage_of};
-ghost use Rattle.lx_run.specs.CallSteps.{call_step, CallGoes, ThreadGoes};
+ghost use Rattle.lx_run.specs.CallSteps.{call_step, thread_step, is_gone, after_gone, CallGoes, ThreadGoes};
 ghost use Rattle.lx_run.specs.Steps.{Steps};
 
-use crate::{file_steps, futex_steps, life_steps, own_effects, pieces, wait_steps};
+use crate::life_steps::{all_free, end_guest};
+use crate::{file_steps, futex_steps, life_steps, own_effects, pieces, signal_steps, wait_steps};
 use lx_calls::shape::stage_of;
 use lx_machine::calls::{LxCall, Stage};
 use lx_machine::label::Label;
@@ -118,4 +121,75 @@ pub fn in_call(
     let result = step_thread(state, alloc, slot, &mut thread, label);
     put_back(state, slot, thread);
     result
+}
+
+/// The step of a thread that a label names.
+fn step_of_thread(
+    state: &mut LinuxState,
+    slot: u8,
+    thread: &mut LxThread,
+    label: &Label,
+) -> Result<(), LxRefusal>
+    ensures { ThreadGoes (thread_step label.now state.old slot thread.old) state.old state.new slot thread.old thread.new result }
+{
+    match label {
+        Label::Return(_, named) => signal_steps::return_result(state, slot, thread, *named),
+        Label::Take(_, list, signal) => {
+            signal_steps::take_signal(state, slot, thread, *list, *signal)
+        }
+        Label::Frame(_) => signal_steps::frame(state, slot, thread),
+        Label::Kill(_) => signal_steps::kill(state, slot, thread),
+        _ => Err(LxRefusal::NoStep),
+    }
+}
+
+/// The step of the thread in a slot that a label names.
+#[tactic(auto, using(crate::proofs::PutBack::thread_back))]
+pub fn on_thread(state: &mut LinuxState, slot: u8, label: &Label) -> Result<(), LxRefusal>
+    ensures { Steps (on_thread state.old slot (thread_step label.now)) state.old state.new result }
+{
+    let Some(mut thread) = take_from(&mut state.threads, slot) else {
+        return Err(LxRefusal::NoStep);
+    };
+    let result = step_of_thread(state, slot, &mut thread, label);
+    put_back(state, slot, thread);
+    result
+}
+
+/// Whether the death of the thread has come to its end.
+fn is_gone(thread: &LxThread) -> bool
+    ensures { result ≡ is_gone thread.now }
+{
+    match &thread.call {
+        Some(call) => matches!(stage_of(call), Stage::Gone),
+        None => false,
+    }
+}
+
+/// What follows of a thread that is gone, and whose place is free: the last one's code is the guest's.
+fn after_gone(state: &mut LinuxState, thread: &LxThread)
+    ensures { state.new ≡ after_gone state.old thread.now }
+{
+    if let Some(call) = &thread.call {
+        if all_free(&state.threads) {
+            end_guest(state, call);
+        }
+    }
+}
+
+/// Gone: the place of a thread that has died is free.
+#[tactic(auto, using(crate::proofs::PutBack::thread_back, crate::proofs::Staged::goes, crate::proofs::Staged::stays))]
+pub fn gone(state: &mut LinuxState, slot: u8) -> Result<(), LxRefusal>
+    ensures { Steps (in_call stage_of state.old slot (machine.gone effects)) state.old state.new result }
+{
+    let Some(thread) = take_from(&mut state.threads, slot) else {
+        return Err(LxRefusal::NoStep);
+    };
+    if is_gone(&thread) {
+        after_gone(state, &thread);
+        Ok(())
+    } else {
+        put_back(state, slot, thread);
+        Err(LxRefusal::NoStep)
+    }
 }

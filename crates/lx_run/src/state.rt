@@ -1,17 +1,23 @@
 //! The Linux machine, in a form that runs.
-ghost use Rattle.std.specs.Prelude.{◌≡◌, IfOk, All, map, string_bytes};
+ghost use Rattle.std.specs.Prelude.{◌≡◌, true, false, length, IfOk, All, map, string_bytes};
 ghost use Rattle.elf_image.specs.Layout.{IsPlaced};
+ghost use Rattle.lx_machine.specs.Interests.{side_holds};
 ghost use Rattle.lx_machine.specs.Step as machine;
+ghost use Rattle.lx_machine.specs.Step.{in_call};
+ghost use Rattle.lx_machine.specs.declared.label.Label.TheVariants as label_of;
+ghost use Rattle.lx_calls.specs.Shape.{stage_of};
 ghost use Rattle.lx_calls.specs.Table as table;
 ghost use Rattle.lx_calls.specs.Table.{effects};
 ghost use Rattle.lx_start.specs.Start as spec;
 ghost use Rattle.lx_start.specs.Stack.{name_of, arguments_of};
 ghost use Rattle.lx_run.specs.Steps.{Steps};
 
-use crate::threads;
+use crate::{slots, threads, whole_steps};
 use elf_image::Image;
 use lx_machine::buffer::NoMemory;
-use lx_machine::label::Label;
+use lx_machine::epolls::drain_side;
+use lx_machine::files::Files;
+use lx_machine::label::{Label, LxSide};
 use lx_machine::refusal::LxRefusal;
 use lx_machine::state::LinuxState;
 use lx_start::start::first_state;
@@ -23,13 +29,100 @@ pub struct LxState {
     state: LinuxState,
 }
 
-/// A step of a guest that has not ended. A label whose call is not built has none.
+/// Effect of the call of the thread in a slot: of one that looks at all threads or changes others, or of any other.
+#[tactic(auto, using(crate::proofs::Staged::has_effect))]
+fn effect(
+    state: &mut LinuxState,
+    alloc: Global,
+    slot: u8,
+    label: &Label,
+) -> Result<(), LxRefusal>
+    requires { label.now ≡ label_of.Effect slot false }
+    ensures { Steps (in_call stage_of state.old slot (machine.effect effects false)) state.old state.new result }
+{
+    match whole_steps::effect(state, alloc, slot) {
+        Err(LxRefusal::NoStep) => slots::in_call(state, alloc, slot, label),
+        done => done,
+    }
+}
+
+/// The same, where memory runs short.
+#[tactic(auto, using(crate::proofs::Staged::runs_short))]
+fn effect_short(
+    state: &mut LinuxState,
+    alloc: Global,
+    slot: u8,
+    label: &Label,
+) -> Result<(), LxRefusal>
+    requires { label.now ≡ label_of.Effect slot true }
+    ensures { Steps (in_call stage_of state.old slot (machine.effect effects true)) state.old state.new result }
+{
+    slots::in_call(state, alloc, slot, label)
+}
+
+/// Time: the clock is set.
+fn set_clock(state: &mut LinuxState, time: u64) -> Result<(), LxRefusal>
+    ensures { Steps (machine.at_time state.old time) state.old state.new result }
+{
+    if state.clock < time {
+        state.clock = time;
+        Ok(())
+    } else {
+        Err(LxRefusal::NoStep)
+    }
+}
+
+/// How many bytes a console room holds.
+fn held(files: &Files, side: LxSide) -> u64
+    ensures { result ≡ length (side_holds files.now side) }
+{
+    match side {
+        LxSide::Out => files.out.held() as u64,
+        LxSide::Err => files.err.held() as u64,
+    }
+}
+
+/// Drain: the first n bytes of a console room leave it.
+fn drain(state: &mut LinuxState, side: LxSide, n: u64) -> Result<(), LxRefusal>
+    ensures { Steps (machine.drain state.old side n) state.old state.new result }
+{
+    if n == 0 || n > held(&state.files, side) {
+        return Err(LxRefusal::NoStep);
+    }
+    drain_side(&mut state.files, side, n as usize);
+    Ok(())
+}
+
+/// A step of a guest that has not ended.
 fn step_on(state: &mut LinuxState, alloc: Global, label: &Label) -> Result<(), LxRefusal>
     ensures { Steps (machine.step_of effects state.old label.now) state.old state.new result }
 {
     match label {
         Label::Instr(slot) => threads::instruction(state, alloc, *slot),
-        _ => Err(LxRefusal::NoStep),
+        Label::Effect(slot, false) => effect(state, alloc, *slot, label),
+        Label::Effect(slot, true) => effect_short(state, alloc, *slot, label),
+        Label::Fetch(slot)
+        | Label::Store(slot)
+        | Label::Hold(slot)
+        | Label::Drop(slot)
+        | Label::Move(slot, _)
+        | Label::Clock(slot)
+        | Label::Queue(slot)
+        | Label::Requeue(slot)
+        | Label::WakeOp(slot)
+        | Label::Mark(slot)
+        | Label::Release(slot)
+        | Label::Resume(slot)
+        | Label::Expire(slot)
+        | Label::Interrupt(slot, _, _)
+        | Label::Start(slot)
+        | Label::Leave(slot) => slots::in_call(state, alloc, *slot, label),
+        Label::Gone(slot) => slots::gone(state, *slot),
+        Label::Return(slot, _) | Label::Take(slot, _, _) | Label::Frame(slot) | Label::Kill(slot) => {
+            slots::on_thread(state, *slot, label)
+        }
+        Label::Time(time) => set_clock(state, *time),
+        Label::Drain(side, n) => drain(state, *side, *n),
     }
 }
 

@@ -149,8 +149,8 @@ pub fn futex_refusal(call: &LxCall) -> Option<LinuxErrno>
     }
 }
 
-/// Whether the call names a timeout.
-fn is_timed(call: &LxCall) -> bool
+/// Whether the call names a timeout (futex(2)).
+pub fn is_timed(call: &LxCall) -> bool
     ensures { result ≡ is_timed call.now }
 {
     call.arguments[3] != 0
