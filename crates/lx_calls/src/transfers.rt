@@ -1,6 +1,6 @@
 //! The steps of read(2), write(2), readv(2) and writev(2) that hold an open file, give it back, and move bytes.
-ghost use Rattle.std.specs.Prelude.{◌≡◌, false, Some, None, OnErr, OnOk};
-ghost use Rattle.lx_calls.specs.Transfers.{outcome, is_read, direction_refusal, hold_file, held, lets_go, dropped, waits, ends_with, ends_refused, move_file, moved, Makes, has_room_for_broken_pipe, with_broken_pipe};
+ghost use Rattle.std.specs.Prelude.{◌≡◌, true, false, Some, None, OnErr, OnOk};
+ghost use Rattle.lx_calls.specs.Transfers.{outcome, is_read, direction_refusal, hold_file, held, is_held_most, has_most_holds, lets_go, dropped, waits, ends_with, ends_refused, move_file, moved, Makes, has_room_for_broken_pipe, with_broken_pipe};
 
 use crate::files::{give_back, hold_once, place_at};
 use crate::reads::read_move;
@@ -43,6 +43,7 @@ fn direction_refusal(reading: bool, kind: FileKind) -> Option<LinuxErrno>
 fn hold_file(files: &mut Files, call: &mut LxCall, file: u32, f: OpenFile) -> Result<(), NoMemory>
     ensures ok { OnOk result (outcome files.new call.new ≡ hold_file files.old call.old file (Some f)) }
     ensures err { OnErr result ((files.new ≡ files.old) × (call.new ≡ call.old)) }
+    ensures full { OnErr result (is_held_most (Some f) ≡ true) }
 {
     match direction_refusal(is_read(call), f.kind) {
         Some(e) => call.refuse(e),
@@ -59,6 +60,7 @@ fn hold_file(files: &mut Files, call: &mut LxCall, file: u32, f: OpenFile) -> Re
 pub fn hold(files: &mut Files, call: &mut LxCall) -> Result<(), NoMemory>
     ensures ok { OnOk result (outcome files.new call.new ≡ held files.old call.old) }
     ensures err { OnErr result ((files.new ≡ files.old) × (call.new ≡ call.old)) }
+    ensures full { OnErr result (has_most_holds files.old call.old ≡ true) }
 {
     let Some(d) = place_at(&files.descriptors, call.low_argument(0)) else {
         call.refuse(LinuxErrno::EBADF);
