@@ -1,5 +1,5 @@
 //! The steps of read(2), write(2), readv(2) and writev(2) that hold an open file, give it back, and move bytes.
-ghost use Rattle.std.specs.Prelude.{◌≡◌, true, false, Some, None, OnErr, OnOk};
+ghost use Rattle.std.specs.Prelude.{◌≡◌, true, false, Some, None, IfErr, OnErr, OnOk};
 ghost use Rattle.lx_calls.specs.Transfers.{outcome, is_read, direction_refusal, hold_file, held, is_held_most, has_most_holds, lets_go, dropped, waits, ends_with, ends_refused, move_file, moved, Makes, has_room_for_broken_pipe, with_broken_pipe};
 
 use crate::files::{give_back, hold_once, place_at};
@@ -86,6 +86,7 @@ pub fn let_go(files: &mut Files, call: &mut LxCall) -> Result<(), LxRefusal>
     ensures ok { OnOk result (dropped files.old call.old ≡ Some (outcome files.new call.new)) }
     ensures err { OnErr result (dropped files.old call.old ≡ None) }
     ensures kept { OnErr result ((files.new ≡ files.old) × (call.new ≡ call.old)) }
+    ensures no_step { IfErr result (λ e. e ≡ LxRefusal.NoStep) }
 {
     match call.held {
         Some(file) => {
