@@ -314,7 +314,12 @@ fn instructions_that_ask_nothing_of_memory(rt: HostRuntime) -> Result<(), Fail> 
         (&[0x9100_07e0, exit, svc], 1, 4, ""),
         (&COMPUTE, 14, 38, ""),
     ] {
-        let told = run_case(alloc, "run guest", image_of(alloc, code)?, (NONE, NONE, NONE))?;
+        let told = run_case(
+            alloc,
+            "run guest",
+            image_of(alloc, code)?,
+            (NONE, NONE, NONE),
+        )?;
         assert!(rt; told.err.as_slice() == err.as_bytes(), "{count}: {err}");
         assert!(rt; told.out.is_empty(), "{count}: {err}");
         assert!(rt;
