@@ -26,7 +26,7 @@ DeliversAt (Some d) place place' pending pending' (Ok ends) = (place' ≡ Some d
 DeliversAt None place place' pending pending' (Ok ends) = ⊥
 DeliversAt (Some d) place place' pending pending' (Err NoStep) = ⊥
 DeliversAt None place place' pending pending' (Err NoStep) = (place' ≡ place) × (pending' ≡ pending)
-DeliversAt o place place' pending pending' (Err NoMemory) = (place' ≡ place) × (pending' ≡ pending)
+DeliversAt o place place' pending pending' (Err NoMemory) = ⊥
 
 -- the same of all threads
 abbrev pub DeliversIn : Option Delivered → List (Option LxThread) → List (Option LxThread) → ℕ → List SigInfo → List SigInfo → Result (Option LinuxSig) LxRefusal → Type 0
@@ -34,7 +34,7 @@ DeliversIn (Some d) threads threads' s pending pending' (Ok ends) = (threads' �
 DeliversIn None threads threads' s pending pending' (Ok ends) = ⊥
 DeliversIn (Some d) threads threads' s pending pending' (Err NoStep) = ⊥
 DeliversIn None threads threads' s pending pending' (Err NoStep) = (threads' ≡ threads) × (pending' ≡ pending)
-DeliversIn o threads threads' s pending pending' (Err NoMemory) = (threads' ≡ threads) × (pending' ≡ pending)
+DeliversIn o threads threads' s pending pending' (Err NoMemory) = ⊥
 
 -- ---- the state
 

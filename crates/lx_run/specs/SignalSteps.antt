@@ -85,4 +85,4 @@ Delivers (Some d) t t' pending pending' (Ok ends) = (t' ≡ d.thread) × (pendin
 Delivers None t t' pending pending' (Ok ends) = ⊥
 Delivers (Some d) t t' pending pending' (Err NoStep) = ⊥
 Delivers None t t' pending pending' (Err NoStep) = (t' ≡ t) × (pending' ≡ pending)
-Delivers o t t' pending pending' (Err NoMemory) = (t' ≡ t) × (pending' ≡ pending)
+Delivers o t t' pending pending' (Err NoMemory) = ⊥

@@ -8,7 +8,7 @@ ghost use Rattle.lx_calls.specs.Table.{effects};
 ghost use Rattle.lx_run.specs.FileSteps.{Goes};
 ghost use Rattle.lx_run.specs.Labels.{effect_past_files, effect_of_any, without_bytes};
 ghost use Rattle.lx_run.specs.ProcessSteps as process;
-ghost use Rattle.lx_run.specs.Steps.{Steps};
+ghost use Rattle.lx_run.specs.Steps.{Steps, IsDecided};
 ghost use Rattle.lx_run.specs.declared.process_steps.ProcessStep.TheVariants as step;
 
 use crate::file_steps::{effect_on_files, move_bytes};
@@ -72,7 +72,8 @@ pub fn move_picked(
 
 /// Lets the first bytes of a room go.
 fn drain_room(room: &mut Room, n: u64) -> Result<(), LxRefusal>
-    ensures { Goes (without_bytes room.old n) room.old room.new result }
+    ensures goes { Goes (without_bytes room.old n) room.old room.new result }
+    ensures decided { IsDecided result }
 {
     let count = n as usize;
     if count == 0 || count > room.held() {
@@ -85,7 +86,8 @@ fn drain_room(room: &mut Room, n: u64) -> Result<(), LxRefusal>
 /// Drain of standard output.
 #[tactic(auto, using(crate::proofs::Joining::drains_out))]
 fn drain_out(state: &mut LinuxState, n: u64) -> Result<(), LxRefusal>
-    ensures { Steps (machine.drain state.old side.Out n) state.old state.new result }
+    ensures steps { Steps (machine.drain state.old side.Out n) state.old state.new result }
+    ensures decided { IsDecided result }
 {
     drain_room(&mut state.files.out, n)
 }
@@ -93,14 +95,16 @@ fn drain_out(state: &mut LinuxState, n: u64) -> Result<(), LxRefusal>
 /// Drain of standard error.
 #[tactic(auto, using(crate::proofs::Joining::drains_err))]
 fn drain_err(state: &mut LinuxState, n: u64) -> Result<(), LxRefusal>
-    ensures { Steps (machine.drain state.old side.Err n) state.old state.new result }
+    ensures steps { Steps (machine.drain state.old side.Err n) state.old state.new result }
+    ensures decided { IsDecided result }
 {
     drain_room(&mut state.files.err, n)
 }
 
 /// Drain: the first n bytes of a console room leave it.
 pub fn drain(state: &mut LinuxState, side: LxSide, n: u64) -> Result<(), LxRefusal>
-    ensures { Steps (machine.drain state.old side n) state.old state.new result }
+    ensures steps { Steps (machine.drain state.old side n) state.old state.new result }
+    ensures decided { IsDecided result }
 {
     match side {
         LxSide::Out => drain_out(state, n),

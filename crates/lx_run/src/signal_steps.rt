@@ -7,7 +7,7 @@ ghost use Rattle.lx_calls.specs.Shape.{stage_of};
 ghost use Rattle.lx_run.specs.SignalPlaces.{step_of, DeliversAt, DeliversIn, signal_step};
 ghost use Rattle.lx_run.specs.SignalSteps as spec;
 ghost use Rattle.lx_run.specs.SignalSteps.{action_among, Delivers};
-ghost use Rattle.lx_run.specs.Steps.{Steps};
+ghost use Rattle.lx_run.specs.Steps.{Steps, IsDecided};
 
 use crate::threads::is_user;
 use linux_abi::LinuxSig;
@@ -227,7 +227,8 @@ fn step_in(
 
 /// The step, in the state: a signal whose default action ends the guest is its end.
 fn step(step: SignalStep, state: &mut LinuxState, slot: u8) -> Result<(), LxRefusal>
-    ensures { Steps (signal_step step state.old slot) state.old state.new result }
+    ensures steps { Steps (signal_step step state.old slot) state.old state.new result }
+    ensures decided { IsDecided result }
 {
     let ends = step_in(
         step,
@@ -250,7 +251,8 @@ pub fn return_result(
     slot: u8,
     named: Option<Named>,
 ) -> Result<(), LxRefusal>
-    ensures { Steps (in_call stage_of state.old slot (return_of named state.old slot)) state.old state.new result }
+    ensures steps { Steps (in_call stage_of state.old slot (return_of named state.old slot)) state.old state.new result }
+    ensures decided { IsDecided result }
 {
     step(SignalStep::Return(named), state, slot)
 }
@@ -263,7 +265,8 @@ pub fn take_signal(
     list: PendingList,
     signal: LinuxSig,
 ) -> Result<(), LxRefusal>
-    ensures { Steps (take_step state.old slot list signal) state.old state.new result }
+    ensures steps { Steps (take_step state.old slot list signal) state.old state.new result }
+    ensures decided { IsDecided result }
 {
     step(SignalStep::Take(list, signal), state, slot)
 }

@@ -6,7 +6,7 @@ ghost use Rattle.lx_calls.specs.Table as table;
 ghost use Rattle.lx_calls.specs.Table.{effects};
 ghost use Rattle.lx_run.specs.Start as spec;
 ghost use Rattle.lx_run.specs.Stack.{name_of, arguments_of};
-ghost use Rattle.lx_run.specs.Steps.{Steps};
+ghost use Rattle.lx_run.specs.Steps.{Steps, IsDecidedAt};
 
 use crate::start::first_state;
 use crate::{file_steps, joined, memory_steps, process_steps, signal_steps, threads};
@@ -25,7 +25,8 @@ pub struct LxState {
 
 /// A step of a guest that has not ended. A label whose call is not built has none.
 fn step_on(state: &mut LinuxState, alloc: Global, label: &Label) -> Result<(), LxRefusal>
-    ensures { Steps (machine.step_of effects state.old label.now) state.old state.new result }
+    ensures steps { Steps (machine.step_of effects state.old label.now) state.old state.new result }
+    ensures decided { IsDecidedAt label.now result }
 {
     match label {
         Label::Instr(slot) => threads::instruction(state, alloc, *slot),
@@ -62,9 +63,10 @@ impl LxState {
     }
 
     /// Takes the step that `label` names. `NoStep`: there is none from this state, as for a guest that has ended.
-    /// `NoMemory`: memory is wanting. After either, the state is as it was.
+    /// `NoMemory`: memory is wanting, which is never so at Return, Take and Drain. After either, the state is as it was.
     pub fn step(&mut self, alloc: Global, label: &Label) -> Result<(), LxRefusal>
-        ensures { Steps (table.step self.old.state label.now) self.old.state self.new.state result }
+        ensures steps { Steps (table.step self.old.state label.now) self.old.state self.new.state result }
+        ensures decided { IsDecidedAt label.now result }
     {
         if self.state.end.is_some() {
             return Err(LxRefusal::NoStep);
