@@ -2,19 +2,10 @@
 ghost use Rattle.std.specs.Prelude.{◌≡◌, ◌≤◌};
 
 use super::*;
+use code_image::image_of;
 use outside::{MemShelf, MemSink};
 use std::alloc::{AllocError, Global};
 use std::test::Fail;
-
-// The headers of the image of `exit-42`: a file header, and the header of one segment for the whole
-// file, at 0x400000 with the rights to read and execute. Its sizes stand at 96 and 104.
-const HEADERS: [u8; 120] = [
-    0x7f, 0x45, 0x4c, 0x46, 2, 1, 1, 0, 0, 0, 0, 0, 0, 0, 0, 0, 2, 0, 0xb7, 0, 1, 0, 0, 0, 0x78, 0,
-    0x40, 0, 0, 0, 0, 0, 0x40, 0, 0, 0, 0, 0, 0, 0, 0, 0, 0, 0, 0, 0, 0, 0, 0, 0, 0, 0, 0x40, 0,
-    0x38, 0, 1, 0, 0, 0, 0, 0, 0, 0, 1, 0, 0, 0, 5, 0, 0, 0, 0, 0, 0, 0, 0, 0, 0, 0, 0, 0, 0x40, 0,
-    0, 0, 0, 0, 0, 0, 0x40, 0, 0, 0, 0, 0, 0x84, 0, 0, 0, 0, 0, 0, 0, 0x84, 0, 0, 0, 0, 0, 0, 0, 0,
-    0x10, 0, 0, 0, 0, 0, 0,
-];
 
 // mov x0, #42; mov x8, #93; svc #0
 const EXIT_42: [u32; 3] = [0xd280_0540, 0xd280_0ba8, 0xd400_0001];
@@ -43,23 +34,6 @@ struct CaseResult {
     count: u64,
     out: Vec<u8>,
     err: Vec<u8>,
-}
-
-// An image with these headers and code words, and sizes that are the file's.
-fn image(alloc: Global, code: &[u32]) -> Result<Vec<u8>, AllocError> {
-    let mut file = Vec::new(alloc);
-    file.extend_from_slice(&HEADERS)?;
-    for word in code {
-        file.extend_from_slice(&word.to_le_bytes())?;
-    }
-    let len = file.len().to_le_bytes();
-    for (to, byte) in file.iter_mut().skip(96).zip(len) {
-        *to = byte;
-    }
-    for (to, byte) in file.iter_mut().skip(104).zip(len) {
-        *to = byte;
-    }
-    Ok(file)
 }
 
 fn words(alloc: Global, line: &str) -> Result<Vec<String>, AllocError> {
@@ -224,7 +198,7 @@ fn ends_bytes_and_last_lines(rt: HostRuntime) -> Result<(), Fail> {
             "linuxulator: usage: too many words at word 2\n",
         ),
     ] {
-        let told = run_case(alloc, line, image(alloc, code)?, fails)?;
+        let told = run_case(alloc, line, image_of(alloc, code)?, fails)?;
         assert!(rt; told.err.as_slice() == err.as_bytes(), "{line}: {err}");
         assert!(rt; told.out.as_slice() == out.as_bytes(), "{line}: {err}");
         assert!(rt;
@@ -275,7 +249,7 @@ fn calls_that_are_refused_or_not_built(rt: HostRuntime) -> Result<(), Fail> {
             "",
         ),
     ] {
-        let told = run_case(alloc, "run guest", image(alloc, code)?, none)?;
+        let told = run_case(alloc, "run guest", image_of(alloc, code)?, none)?;
         assert!(rt; told.err.as_slice() == err.as_bytes(), "{count}: {err}");
         assert!(rt; told.out.is_empty(), "{count}: {err}");
         assert!(rt;
@@ -340,7 +314,12 @@ fn instructions_that_ask_nothing_of_memory(rt: HostRuntime) -> Result<(), Fail> 
         (&[0x9100_07e0, exit, svc], 1, 4, ""),
         (&COMPUTE, 14, 38, ""),
     ] {
-        let told = run_case(alloc, "run guest", image(alloc, code)?, (NONE, NONE, NONE))?;
+        let told = run_case(
+            alloc,
+            "run guest",
+            image_of(alloc, code)?,
+            (NONE, NONE, NONE),
+        )?;
         assert!(rt; told.err.as_slice() == err.as_bytes(), "{count}: {err}");
         assert!(rt; told.out.is_empty(), "{count}: {err}");
         assert!(rt;
@@ -356,7 +335,7 @@ fn instructions_that_ask_nothing_of_memory(rt: HostRuntime) -> Result<(), Fail> 
 #[test]
 fn images_that_are_refused(rt: HostRuntime) -> Result<(), Fail> {
     let alloc = rt.alloc();
-    let whole = image(alloc, &EXIT_42)?;
+    let whole = image_of(alloc, &EXIT_42)?;
     for (len, place, byte, status, err) in [
         (0, 0, 0, 121, "linuxulator: image: not an ELF file at 0\n"),
         (

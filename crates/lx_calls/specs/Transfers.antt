@@ -87,6 +87,18 @@ hold_descriptor F c None = refuses F c errno.EBADF
 abbrev pub held : Files → LxCall → Outcome
 held F c = hold_descriptor F c (at_place F.descriptors (low_argument c 0))
 
+-- as many calls hold the open file of the first argument as can be counted in 32 bits
+abbrev pub is_held_most : Option OpenFile → Bool
+is_held_most (Some f) = f.holds == 2 ^ 32 - 1
+is_held_most None = false
+
+abbrev pub names_held_most : Files → Option Descriptor → Bool
+names_held_most F (Some d) = is_held_most (at_place F.files d.file)
+names_held_most F None = false
+
+abbrev pub has_most_holds : Files → LxCall → Bool
+has_most_holds F c = names_held_most F (at_place F.descriptors (low_argument c 0))
+
 -- ---- Drop, and the end of a move: the hold is given back
 
 abbrev pub without_hold : LxCall → LxCall

@@ -1,5 +1,5 @@
 //! brk(2), mmap(2), munmap(2), mprotect(2) and madvise(2).
-ghost use Rattle.std.specs.Prelude.{◌≡◌, ◌≤◌, ◌+◌, ◌*◌, ◌^◌, ◌<◌, Some, None, IfOk, OnErr, OnOk};
+ghost use Rattle.std.specs.Prelude.{◌≡◌, ◌≤◌, ◌+◌, ◌*◌, ◌^◌, ◌<◌, Some, None, IfOk, IfErr, OnErr, OnOk};
 ghost use Rattle.lx_calls.specs.MemoryCalls.{rights_of, refuses, raised, lowered, brk, mapped_at, mapped_fixed, mmap, munmap, mprotect, madvise, short_of_memory};
 
 use crate::entry::{PAGE, is_fixed, pages_of};
@@ -207,6 +207,7 @@ pub fn run_short(space: &Space, call: &mut LxCall, kind: Call) -> Result<(), LxR
     ensures ok { OnOk result (short_of_memory space.now call.old kind ≡ Some record { space = space.now; call = call.new; first = 0; count = 0 }) }
     ensures err { OnErr result (short_of_memory space.now call.old kind ≡ None) }
     ensures kept { OnErr result (call.new ≡ call.old) }
+    ensures no_step { IfErr result (λ e. e ≡ LxRefusal.NoStep) }
 {
     match kind {
         Call::Brk => call.answer(space.break_at),

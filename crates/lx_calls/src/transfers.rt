@@ -1,6 +1,6 @@
 //! The steps of read(2), write(2), readv(2) and writev(2) that hold an open file, give it back, and move bytes.
-ghost use Rattle.std.specs.Prelude.{◌≡◌, false, Some, None, OnErr, OnOk};
-ghost use Rattle.lx_calls.specs.Transfers.{outcome, is_read, direction_refusal, hold_file, held, lets_go, dropped, with_counter, waits, ends_with, ends_refused, move_file, moved, Makes, interrupted_answer, interrupted, may_restart, has_room_for_broken_pipe, with_broken_pipe};
+ghost use Rattle.std.specs.Prelude.{◌≡◌, true, false, Some, None, IfErr, OnErr, OnOk};
+ghost use Rattle.lx_calls.specs.Transfers.{outcome, is_read, direction_refusal, hold_file, held, is_held_most, has_most_holds, lets_go, dropped, with_counter, waits, ends_with, ends_refused, move_file, moved, Makes, interrupted_answer, interrupted, may_restart, has_room_for_broken_pipe, with_broken_pipe};
 
 use crate::reads::read_move;
 use crate::writes::write_move;
@@ -44,6 +44,7 @@ fn direction_refusal(reading: bool, kind: FileKind) -> Option<LinuxErrno>
 fn hold_file(files: &mut Files, call: &mut LxCall, file: u32, f: OpenFile) -> Result<(), NoMemory>
     ensures ok { OnOk result (outcome files.new call.new ≡ hold_file files.old call.old file (Some f)) }
     ensures err { OnErr result ((files.new ≡ files.old) × (call.new ≡ call.old)) }
+    ensures full { OnErr result (is_held_most (Some f) ≡ true) }
 {
     match direction_refusal(is_read(call), f.kind) {
         Some(e) => call.refuse(e),
@@ -60,6 +61,7 @@ fn hold_file(files: &mut Files, call: &mut LxCall, file: u32, f: OpenFile) -> Re
 pub fn hold(files: &mut Files, call: &mut LxCall) -> Result<(), NoMemory>
     ensures ok { OnOk result (outcome files.new call.new ≡ held files.old call.old) }
     ensures err { OnErr result ((files.new ≡ files.old) × (call.new ≡ call.old)) }
+    ensures full { OnErr result (has_most_holds files.old call.old ≡ true) }
 {
     let Some(d) = place_at(&files.descriptors, call.low_argument(0)) else {
         call.refuse(LinuxErrno::EBADF);
@@ -85,6 +87,7 @@ pub fn let_go(files: &mut Files, call: &mut LxCall) -> Result<(), LxRefusal>
     ensures ok { OnOk result (dropped files.old call.old ≡ Some (outcome files.new call.new)) }
     ensures err { OnErr result (dropped files.old call.old ≡ None) }
     ensures kept { OnErr result ((files.new ≡ files.old) × (call.new ≡ call.old)) }
+    ensures no_step { IfErr result (λ e. e ≡ LxRefusal.NoStep) }
 {
     match call.held {
         Some(file) => {

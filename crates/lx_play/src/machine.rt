@@ -1,6 +1,12 @@
 // The Linux machine, as the player uses it.
-ghost use Rattle.std.specs.Prelude.{◌<◌, All};
+ghost use Rattle.std.specs.Prelude.{◌≡◌, ◌<◌, All, IfOk, length, map, option_copied, string_bytes};
 ghost use Rattle.elf_image.specs.Layout.{IsPlaced};
+ghost use Rattle.lx_machine.specs.Lists.{at_place};
+ghost use Rattle.lx_machine.specs.Step.{room_of};
+ghost use Rattle.lx_calls.specs.Table.{step};
+ghost use Rattle.lx_run.specs.Start as first;
+ghost use Rattle.lx_run.specs.Stack.{name_of, arguments_of};
+ghost use Rattle.lx_play.specs.Play.{stage_in, trap_in, last_put, Takes, Reaches};
 
 use elf_image::Image;
 use linux_abi::LinuxSig;
@@ -28,13 +34,18 @@ impl Machine {
         input: Vec<u8>,
     ) -> Result<Machine, NoMemory>
         requires { All IsPlaced image.now.segments }
+        ensures { IfOk result (λ machine. machine.state.state ≡ first.start image.now (name_of (map string_bytes words.now)) (arguments_of (map string_bytes words.now)) input.items 0) }
     {
         let state = LxState::start(alloc, image, words, input, 0)?;
         Ok(Machine { state })
     }
 
     /// Takes the step with this label, and answers whether there is one.
-    pub fn take(&mut self, alloc: Global, label: &Label) -> Result<bool, NoMemory> {
+    #[tactic(auto, using(crate::proofs::Runs::one, crate::proofs::Runs::stays))]
+    pub fn take(&mut self, alloc: Global, label: &Label) -> Result<bool, NoMemory>
+        ensures takes { Takes (step self.old.state.state label.now) self.old.state.state self.new.state.state result }
+        ensures reaches { Reaches self.old.state.state self.new.state.state }
+    {
         match self.state.step(alloc, label) {
             Ok(()) => Ok(true),
             Err(LxRefusal::NoStep) => Ok(false),
@@ -43,13 +54,16 @@ impl Machine {
     }
 
     /// How the guest has ended, once it has.
-    pub fn end(&self) -> Option<GuestEnd> {
+    pub fn end(&self) -> Option<GuestEnd>
+        ensures { result ≡ self.now.state.state.end }
+    {
         self.state.state().end
     }
 
     // The thread in this slot.
     fn thread(&self, slot: u8) -> Option<&LxThread>
         requires { slot < 32 }
+        ensures { option_copied result ≡ at_place self.now.state.state.threads slot }
     {
         self.state.state().threads[slot as usize].as_ref()
     }
@@ -57,21 +71,38 @@ impl Machine {
     /// What the call of the thread in this slot does next, where there is a thread in a call.
     pub fn stage(&self, slot: u8) -> Option<Stage>
         requires { slot < 32 }
+        ensures { result ≡ stage_in self.now.state.state slot }
     {
         let call = self.thread(slot)?.call.as_ref()?;
         Some(stage_of(call))
     }
 
+    /// The result of the call with this number, in the form of x0, where the thread in this slot is in it and it has one.
+    #[cfg(test)]
+    pub fn result(&self, slot: u8, number: u64) -> Option<u64>
+        requires { slot < 32 }
+    {
+        let call = self.thread(slot)?.call.as_ref()?;
+        if call.number == number {
+            call.result
+        } else {
+            None
+        }
+    }
+
     /// The signal of the trap of the thread in this slot, where there is one that has trapped.
     pub fn trap(&self, slot: u8) -> Option<LinuxSig>
         requires { slot < 32 }
+        ensures { result ≡ trap_in self.now.state.state slot }
     {
         let trap = self.thread(slot)?.trap?;
         Some(trap.signal)
     }
 
     /// How many bytes a console room holds.
-    pub fn held(&self, side: LxSide) -> usize {
+    pub fn held(&self, side: LxSide) -> usize
+        ensures { result ≡ length (room_of self.now.state.state side) }
+    {
         let files = &self.state.state().files;
         match side {
             LxSide::Out => files.out.held(),
@@ -80,7 +111,9 @@ impl Machine {
     }
 
     // The bytes that a console room holds, which are the last ones that were ever put into it.
-    fn room(&self, side: LxSide) -> &[u8] {
+    fn room(&self, side: LxSide) -> &[u8]
+        ensures { result.now ≡ last_put self.now.state.state side }
+    {
         let files = &self.state.state().files;
         let put = match side {
             LxSide::Out => files.put_out.as_slice(),
@@ -91,7 +124,11 @@ impl Machine {
     }
 
     /// Takes all bytes out of a console room.
-    pub fn drain(&mut self, alloc: Global, side: LxSide) -> Result<Vec<u8>, NoMemory> {
+    #[tactic(auto, using(crate::proofs::Runs::here))]
+    pub fn drain(&mut self, alloc: Global, side: LxSide) -> Result<Vec<u8>, NoMemory>
+        ensures bytes { IfOk result (λ bytes. bytes.items ≡ last_put self.old.state.state side) }
+        ensures reaches { Reaches self.old.state.state self.new.state.state }
+    {
         let Ok(bytes) = Vec::from_slice(alloc, self.room(side)) else {
             return Err(NoMemory);
         };

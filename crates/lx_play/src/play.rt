@@ -1,5 +1,6 @@
 // The run of a guest: rounds over its threads, and what it writes.
 ghost use Rattle.std.specs.Prelude.{◌<◌};
+ghost use Rattle.lx_play.specs.Play.{Reaches};
 
 use crate::machine::Machine;
 use crate::turns::step_of;
@@ -57,8 +58,10 @@ impl From<Failed> for RunEnd {
 }
 
 // The turn of the thread in this slot. It answers how many steps that had.
+#[tactic(auto, using(crate::proofs::Runs::here, crate::proofs::Runs::onward))]
 fn turn(machine: &mut Machine, alloc: Global, slot: u8) -> Result<u64, NoMemory>
     requires { slot < 32 }
+    ensures { Reaches machine.old.state.state machine.new.state.state }
 {
     for taken in 0..TURN {
         if machine.end().is_some() || !step_of(machine, alloc, slot)? {
@@ -69,7 +72,10 @@ fn turn(machine: &mut Machine, alloc: Global, slot: u8) -> Result<u64, NoMemory>
 }
 
 // A turn of each thread. It answers how many steps these had.
-fn round(machine: &mut Machine, alloc: Global) -> Result<u64, NoMemory> {
+#[tactic(auto, using(crate::proofs::Runs::here, crate::proofs::Runs::onward))]
+fn round(machine: &mut Machine, alloc: Global) -> Result<u64, NoMemory>
+    ensures { Reaches machine.old.state.state machine.new.state.state }
+{
     let mut taken: u64 = 0;
     for slot in 0..SLOTS {
         taken = taken.saturating_add(turn(machine, alloc, slot)?);
@@ -78,13 +84,16 @@ fn round(machine: &mut Machine, alloc: Global) -> Result<u64, NoMemory> {
 }
 
 // Puts out what a room holds, if it holds so many bytes. It answers whether it did.
+#[tactic(auto, using(crate::proofs::Runs::here, crate::proofs::Runs::onward))]
 fn drain<S: Sink>(
     machine: &mut Machine,
     alloc: Global,
     side: LxSide,
     least: usize,
     sink: &mut S,
-) -> Result<bool, RunEnd> {
+) -> Result<bool, RunEnd>
+    ensures { Reaches machine.old.state.state machine.new.state.state }
+{
     if machine.held(side) < least {
         return Ok(false);
     }
@@ -94,25 +103,31 @@ fn drain<S: Sink>(
 }
 
 // Puts out what both rooms hold, where they hold so many bytes. It answers whether one did.
+#[tactic(auto, using(crate::proofs::Runs::here, crate::proofs::Runs::onward))]
 fn drain_both<O: Sink, E: Sink>(
     machine: &mut Machine,
     alloc: Global,
     least: usize,
     out: &mut O,
     err: &mut E,
-) -> Result<bool, RunEnd> {
+) -> Result<bool, RunEnd>
+    ensures { Reaches machine.old.state.state machine.new.state.state }
+{
     let drained_out = drain(machine, alloc, LxSide::Out, least, out)?;
     let drained_err = drain(machine, alloc, LxSide::Err, least, err)?;
     Ok(drained_out || drained_err)
 }
 
 // The rounds, up to the end of the run.
+#[tactic(auto, using(crate::proofs::Runs::onward, crate::proofs::Runs::onward_twice))]
 fn rounds<O: Sink, E: Sink>(
     machine: &mut Machine,
     alloc: Global,
     out: &mut O,
     err: &mut E,
-) -> Result<RunEnd, RunEnd> {
+) -> Result<RunEnd, RunEnd>
+    ensures { Reaches machine.old.state.state machine.new.state.state }
+{
     let mut left = BUDGET;
     for _ in 0..BUDGET {
         let taken = round(machine, alloc)?;
@@ -133,12 +148,15 @@ fn rounds<O: Sink, E: Sink>(
 
 /// Runs a guest to its end, and puts out what it writes. Where the budget is spent, no thread has a step or memory is
 /// wanting, what it has written is put out too.
+#[tactic(auto, using(crate::proofs::Runs::here, crate::proofs::Runs::onward))]
 pub fn play<O: Sink, E: Sink>(
     machine: &mut Machine,
     alloc: Global,
     out: &mut O,
     err: &mut E,
-) -> RunEnd {
+) -> RunEnd
+    ensures { Reaches machine.old.state.state machine.new.state.state }
+{
     let end = match rounds(machine, alloc, out, err) {
         Ok(end) => end,
         Err(end) => end,

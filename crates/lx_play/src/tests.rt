@@ -2,19 +2,14 @@
 // above. Where a run compares answers, x19 counts those that differ, and is the status: `is n` stands for
 // mov x9, n; cmp x0, x9; cinc x19, x19, ne.
 use super::*;
+use crate::turns::step_of;
+use code_image::image_of;
 use outside::MemSink;
 use std::alloc::AllocError;
 use std::test::Fail;
 
-// The headers of an image: a file header, and the header of one segment for the whole file, at 0x400000 with the rights to
-// read and execute. Its sizes stand at 96 and 104.
-static HEADERS: [u8; 120] = [
-    0x7f, 0x45, 0x4c, 0x46, 2, 1, 1, 0, 0, 0, 0, 0, 0, 0, 0, 0, 2, 0, 0xb7, 0, 1, 0, 0, 0, 0x78, 0,
-    0x40, 0, 0, 0, 0, 0, 0x40, 0, 0, 0, 0, 0, 0, 0, 0, 0, 0, 0, 0, 0, 0, 0, 0, 0, 0, 0, 0x40, 0,
-    0x38, 0, 1, 0, 0, 0, 0, 0, 0, 0, 1, 0, 0, 0, 5, 0, 0, 0, 0, 0, 0, 0, 0, 0, 0, 0, 0, 0, 0x40, 0,
-    0, 0, 0, 0, 0, 0, 0x40, 0, 0, 0, 0, 0, 0x84, 0, 0, 0, 0, 0, 0, 0, 0x84, 0, 0, 0, 0, 0, 0, 0, 0,
-    0x10, 0, 0, 0, 0, 0, 0,
-];
+// More steps than any run here takes one by one.
+const MANY: u64 = 1000;
 
 // mov x0, 42; mov x8, 93; svc 0
 static EXIT_42: [u32; 3] = [0xd280_0540, 0xd280_0ba8, 0xd400_0001];
@@ -334,23 +329,6 @@ static NO_READER: [u32; 16] = [
     0xd400_0001,
 ];
 
-// An image with these headers and code words, and sizes that are the file's.
-fn image(alloc: Global, code: &[u32]) -> Result<Vec<u8>, AllocError> {
-    let mut file = Vec::new(alloc);
-    file.extend_from_slice(&HEADERS)?;
-    for word in code {
-        file.extend_from_slice(&word.to_le_bytes())?;
-    }
-    let len = file.len().to_le_bytes();
-    for (to, byte) in file.iter_mut().skip(96).zip(len) {
-        *to = byte;
-    }
-    for (to, byte) in file.iter_mut().skip(104).zip(len) {
-        *to = byte;
-    }
-    Ok(file)
-}
-
 // The image's name and two arguments.
 fn words(alloc: Global) -> Result<Vec<String>, AllocError> {
     let mut words = Vec::new(alloc);
@@ -360,11 +338,16 @@ fn words(alloc: Global) -> Result<Vec<String>, AllocError> {
     Ok(words)
 }
 
+// A guest with this code, at its start and without input.
+fn start(alloc: Global, code: &[u32]) -> Result<Machine, Fail> {
+    let image = read_image(alloc, &image_of(alloc, code)?)?;
+    let started = Machine::start(alloc, &image, &words(alloc)?, Vec::new(alloc));
+    Ok(started.map_err(|_| "no memory")?)
+}
+
 // The status of a run of this code, and what it writes to standard output.
 fn run(alloc: Global, code: &[u32]) -> Result<(u8, Vec<u8>), Fail> {
-    let image = read_image(alloc, &image(alloc, code)?)?;
-    let started = Machine::start(alloc, &image, &words(alloc)?, Vec::new(alloc));
-    let mut machine = started.map_err(|_| "no memory")?;
+    let mut machine = start(alloc, code)?;
     let mut out = MemSink::make(Vec::new(alloc), 100_000, Vec::new(alloc));
     let mut err = MemSink::make(Vec::new(alloc), 7, Vec::new(alloc));
     let end = play(&mut machine, alloc, &mut out, &mut err);
@@ -380,6 +363,30 @@ fn status(alloc: Global, code: &[u32]) -> Result<u8, Fail> {
     }
 }
 
+// How many steps the thread in the first slot takes, up to the end of the guest or to a standstill.
+fn count_steps(alloc: Global, code: &[u32]) -> Result<u64, Fail> {
+    let mut machine = start(alloc, code)?;
+    for taken in 0..MANY {
+        let stepped = step_of(&mut machine, alloc, 0).map_err(|_| "no memory")?;
+        if !stepped {
+            return Ok(taken);
+        }
+    }
+    Err("too many steps".into())
+}
+
+// The result of the call with this number, in the form of x0, once it is about to return for the first time.
+fn result_of(alloc: Global, code: &[u32], number: u64) -> Result<u64, Fail> {
+    let mut machine = start(alloc, code)?;
+    for _ in 0..MANY {
+        if let Some(result) = machine.result(0, number) {
+            return Ok(result);
+        }
+        step_of(&mut machine, alloc, 0).map_err(|_| "no memory")?;
+    }
+    Err("too many steps".into())
+}
+
 // exit-42, arg-count-on-stack, no-row-is-sigill, unknown-call-is-enosys.
 #[test]
 fn first_runs(rt: HostRuntime) -> Result<(), Fail> {
@@ -388,6 +395,22 @@ fn first_runs(rt: HostRuntime) -> Result<(), Fail> {
     assert_eq!(rt; status(alloc, &ARG_COUNT)?, 3);
     assert_eq!(rt; status(alloc, &NO_ROW)?, 132);
     assert_eq!(rt; status(alloc, &UNKNOWN_CALL)?, 0);
+    Ok(())
+}
+
+// The same runs and write-ok-line, by the numbers of their steps.
+#[test]
+fn numbers_of_steps(rt: HostRuntime) -> Result<(), Fail> {
+    let alloc = rt.alloc();
+    // Instr, Instr, Instr, Leave.
+    assert_eq!(rt; count_steps(alloc, &EXIT_42)?, 4);
+    assert_eq!(rt; count_steps(alloc, &ARG_COUNT)?, 4);
+    // Instr, Take.
+    assert_eq!(rt; count_steps(alloc, &NO_ROW)?, 2);
+    // Instr, Instr, Return, Instr, Instr, Instr, Leave.
+    assert_eq!(rt; count_steps(alloc, &UNKNOWN_CALL)?, 7);
+    // Five of Instr, Fetch, Hold, Move, Return, three of Instr, Leave.
+    assert_eq!(rt; count_steps(alloc, &WRITE_OK)?, 13);
     Ok(())
 }
 
@@ -414,7 +437,8 @@ fn memory(rt: HostRuntime) -> Result<(), Fail> {
 }
 
 // read-empty-pipe in both its parts, semaphore-counter (a write is refused, three reads give 1 each, the next waits),
-// read-into-unmapped-page (and then the pipe is empty), descriptor-refusals, write-without-reader.
+// read-into-unmapped-page (and then the pipe is empty), descriptor-refusals, write-without-reader (write(2) answers -32,
+// and its return takes SIGPIPE).
 #[test]
 fn descriptors(rt: HostRuntime) -> Result<(), Fail> {
     let alloc = rt.alloc();
@@ -423,6 +447,7 @@ fn descriptors(rt: HostRuntime) -> Result<(), Fail> {
     assert_eq!(rt; status(alloc, &SEMAPHORE)?, 125);
     assert_eq!(rt; status(alloc, &INTO_UNMAPPED)?, 0);
     assert_eq!(rt; status(alloc, &DESCRIPTOR_REFUSALS)?, 0);
+    assert_eq!(rt; result_of(alloc, &NO_READER, 64)?.cast_signed(), -32);
     assert_eq!(rt; status(alloc, &NO_READER)?, 141);
     Ok(())
 }

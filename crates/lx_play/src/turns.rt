@@ -1,5 +1,6 @@
 // Which step a thread takes.
 ghost use Rattle.std.specs.Prelude.{◌<◌};
+ghost use Rattle.lx_play.specs.Play.{Reaches};
 
 use crate::machine::Machine;
 use linux_abi::LinuxSig;
@@ -39,11 +40,10 @@ fn second_label_of(slot: u8, stage: Stage) -> Option<Label> {
 }
 
 // Takes a step with this label, if there is a label and a step.
-fn take_if_any(
-    machine: &mut Machine,
-    alloc: Global,
-    label: Option<Label>,
-) -> Result<bool, NoMemory> {
+#[tactic(auto, using(crate::proofs::Runs::here))]
+fn take_if_any(machine: &mut Machine, alloc: Global, label: Option<Label>) -> Result<bool, NoMemory>
+    ensures { Reaches machine.old.state.state machine.new.state.state }
+{
     match label {
         Some(label) => machine.take(alloc, &label),
         None => Ok(false),
@@ -51,7 +51,10 @@ fn take_if_any(
 }
 
 // A call whose effect wants more memory than there is goes on as one for which memory runs short.
-fn take_effect(machine: &mut Machine, alloc: Global, slot: u8) -> Result<bool, NoMemory> {
+#[tactic(auto, using(crate::proofs::Runs::onward))]
+fn take_effect(machine: &mut Machine, alloc: Global, slot: u8) -> Result<bool, NoMemory>
+    ensures { Reaches machine.old.state.state machine.new.state.state }
+{
     match machine.take(alloc, &Label::Effect(slot, false)) {
         Ok(taken) => Ok(taken),
         Err(NoMemory) => machine.take(alloc, &Label::Effect(slot, true)),
@@ -59,12 +62,15 @@ fn take_effect(machine: &mut Machine, alloc: Global, slot: u8) -> Result<bool, N
 }
 
 // A step of a thread in a call.
+#[tactic(auto, using(crate::proofs::Runs::onward))]
 fn step_in_call(
     machine: &mut Machine,
     alloc: Global,
     slot: u8,
     stage: Stage,
-) -> Result<bool, NoMemory> {
+) -> Result<bool, NoMemory>
+    ensures { Reaches machine.old.state.state machine.new.state.state }
+{
     if let Stage::Effect = stage {
         return take_effect(machine, alloc, slot);
     }
@@ -77,6 +83,7 @@ fn step_in_call(
 /// A step of the thread in this slot. False: it has none, or there is no thread.
 pub fn step_of(machine: &mut Machine, alloc: Global, slot: u8) -> Result<bool, NoMemory>
     requires { slot < 32 }
+    ensures { Reaches machine.old.state.state machine.new.state.state }
 {
     if let Some(stage) = machine.stage(slot) {
         return step_in_call(machine, alloc, slot, stage);

@@ -6,6 +6,7 @@ ghost use Rattle.lx_calls.specs.Waits.{restarts};
 ghost use Rattle.lx_machine.specs.Step as machine;
 ghost use Rattle.lx_machine.specs.Threads.{with_thread};
 ghost use Rattle.lx_run.specs.CallSteps.{is_killed, ThreadGoes};
+ghost use Rattle.lx_run.specs.Steps.{IsDecided};
 
 use crate::threads::unmark;
 use linux_abi::{Call, LinuxSig};
@@ -64,7 +65,8 @@ pub fn return_result(
     thread: &mut LxThread,
     named: Option<Named>,
 ) -> Result<(), LxRefusal>
-    ensures { ThreadGoes (spec.return named state.old slot thread.old) state.old state.new slot thread.old thread.new result }
+    ensures goes { ThreadGoes (spec.return named state.old slot thread.old) state.old state.new slot thread.old thread.new result }
+    ensures decided { IsDecided result }
 {
     let (again, stage) = match &thread.call {
         Some(call) => (restarts(call), stage_of(call)),
@@ -90,7 +92,8 @@ pub fn take_signal(
     list: PendingList,
     signal: LinuxSig,
 ) -> Result<(), LxRefusal>
-    ensures { ThreadGoes (spec.take list signal state.old slot thread.old) state.old state.new slot thread.old thread.new result }
+    ensures goes { ThreadGoes (spec.take list signal state.old slot thread.old) state.old state.new slot thread.old thread.new result }
+    ensures decided { IsDecided result }
 {
     let fate = take_thread(
         &mut state.actions,
@@ -107,7 +110,8 @@ pub fn take_signal(
 /// Frame: the frame of the handler of the signal that the thread has taken is stored. What is written ends the marks of other
 /// threads.
 pub fn frame(state: &mut LinuxState, slot: u8, thread: &mut LxThread) -> Result<(), LxRefusal>
-    ensures { ThreadGoes (spec.frame state.old slot thread.old) state.old state.new slot thread.old thread.new result }
+    ensures goes { ThreadGoes (spec.frame state.old slot thread.old) state.old state.new slot thread.old thread.new result }
+    ensures decided { IsDecided result }
 {
     if let Some(at) = store_taken(&mut state.space.pages, thread)? {
         unmark(state, slot, u128::from(at), FRAME);
@@ -128,7 +132,8 @@ fn is_killed(thread: &LxThread) -> bool
 /// Kill: the guest ends, since a frame could not be stored or read.
 #[tactic(auto, using(crate::proofs::Staged::killed))]
 pub fn kill(state: &mut LinuxState, slot: u8, thread: &LxThread) -> Result<(), LxRefusal>
-    ensures { ThreadGoes (machine.kill_of effects state.old slot thread.now) state.old state.new slot thread.now thread.now result }
+    ensures goes { ThreadGoes (machine.kill_of effects state.old slot thread.now) state.old state.new slot thread.now thread.now result }
+    ensures decided { IsDecided result }
 {
     if !thread.is_doomed && !is_killed(thread) {
         return Err(LxRefusal::NoStep);

@@ -7,7 +7,7 @@ ghost use Rattle.lx_machine.specs.Step.{on_thread, in_call, of_call};
 ghost use Rattle.lx_calls.specs.Table.{effects};
 ghost use Rattle.lx_calls.specs.Shape.{stage_of};
 ghost use Rattle.lx_run.specs.CallSteps.{call_step, thread_step, is_gone, after_gone, CallGoes, ThreadGoes};
-ghost use Rattle.lx_run.specs.Steps.{Steps};
+ghost use Rattle.lx_run.specs.Steps.{Steps, IsDecided};
 
 use crate::life_steps::{all_free, end_guest};
 use crate::{file_steps, futex_steps, life_steps, own_effects, pieces, signal_steps, wait_steps};
@@ -130,7 +130,8 @@ fn step_of_thread(
     thread: &mut LxThread,
     label: &Label,
 ) -> Result<(), LxRefusal>
-    ensures { ThreadGoes (thread_step label.now state.old slot thread.old) state.old state.new slot thread.old thread.new result }
+    ensures goes { ThreadGoes (thread_step label.now state.old slot thread.old) state.old state.new slot thread.old thread.new result }
+    ensures decided { IsDecided result }
 {
     match label {
         Label::Return(_, named) => signal_steps::return_result(state, slot, thread, *named),
@@ -146,7 +147,8 @@ fn step_of_thread(
 /// The step of the thread in a slot that a label names.
 #[tactic(auto, using(crate::proofs::PutBack::thread_back))]
 pub fn on_thread(state: &mut LinuxState, slot: u8, label: &Label) -> Result<(), LxRefusal>
-    ensures { Steps (on_thread state.old slot (thread_step label.now)) state.old state.new result }
+    ensures steps { Steps (on_thread state.old slot (thread_step label.now)) state.old state.new result }
+    ensures decided { IsDecided result }
 {
     let Some(mut thread) = take_from(&mut state.threads, slot) else {
         return Err(LxRefusal::NoStep);
@@ -180,7 +182,8 @@ fn after_gone(state: &mut LinuxState, thread: &LxThread)
 /// Gone: the place of a thread that has died is free.
 #[tactic(auto, using(crate::proofs::PutBack::thread_back, crate::proofs::Staged::goes, crate::proofs::Staged::stays))]
 pub fn gone(state: &mut LinuxState, slot: u8) -> Result<(), LxRefusal>
-    ensures { Steps (in_call stage_of state.old slot (machine.gone effects)) state.old state.new result }
+    ensures steps { Steps (in_call stage_of state.old slot (machine.gone effects)) state.old state.new result }
+    ensures decided { IsDecided result }
 {
     let Some(thread) = take_from(&mut state.threads, slot) else {
         return Err(LxRefusal::NoStep);

@@ -10,7 +10,7 @@ ghost use Rattle.lx_calls.specs.Table as table;
 ghost use Rattle.lx_calls.specs.Table.{effects};
 ghost use Rattle.lx_start.specs.Start as spec;
 ghost use Rattle.lx_start.specs.Stack.{name_of, arguments_of};
-ghost use Rattle.lx_run.specs.Steps.{Steps};
+ghost use Rattle.lx_run.specs.Steps.{Steps, IsDecided, IsDecidedAt};
 
 use crate::{slots, threads, whole_steps};
 use elf_image::Image;
@@ -62,7 +62,8 @@ fn effect_short(
 
 /// Time: the clock is set.
 fn set_clock(state: &mut LinuxState, time: u64) -> Result<(), LxRefusal>
-    ensures { Steps (machine.at_time state.old time) state.old state.new result }
+    ensures steps { Steps (machine.at_time state.old time) state.old state.new result }
+    ensures decided { IsDecided result }
 {
     if state.clock < time {
         state.clock = time;
@@ -84,7 +85,8 @@ fn held(files: &Files, side: LxSide) -> u64
 
 /// Drain: the first n bytes of a console room leave it.
 fn drain(state: &mut LinuxState, side: LxSide, n: u64) -> Result<(), LxRefusal>
-    ensures { Steps (machine.drain state.old side n) state.old state.new result }
+    ensures steps { Steps (machine.drain state.old side n) state.old state.new result }
+    ensures decided { IsDecided result }
 {
     if n == 0 || n > held(&state.files, side) {
         return Err(LxRefusal::NoStep);
@@ -95,7 +97,8 @@ fn drain(state: &mut LinuxState, side: LxSide, n: u64) -> Result<(), LxRefusal>
 
 /// A step of a guest that has not ended.
 fn step_on(state: &mut LinuxState, alloc: Global, label: &Label) -> Result<(), LxRefusal>
-    ensures { Steps (machine.step_of effects state.old label.now) state.old state.new result }
+    ensures steps { Steps (machine.step_of effects state.old label.now) state.old state.new result }
+    ensures decided { IsDecidedAt label.now result }
 {
     match label {
         Label::Instr(slot) => threads::instruction(state, alloc, *slot),
@@ -145,9 +148,10 @@ impl LxState {
     }
 
     /// Takes the step that `label` names. `NoStep`: there is none from this state, as for a guest that has ended.
-    /// `NoMemory`: memory is wanting. After either, the state is as it was.
+    /// `NoMemory`: memory is wanting, which is never so at Return, Take and Drain. After either, the state is as it was.
     pub fn step(&mut self, alloc: Global, label: &Label) -> Result<(), LxRefusal>
-        ensures { Steps (table.step self.old.state label.now) self.old.state self.new.state result }
+        ensures steps { Steps (table.step self.old.state label.now) self.old.state self.new.state result }
+        ensures decided { IsDecidedAt label.now result }
     {
         if self.state.end.is_some() {
             return Err(LxRefusal::NoStep);

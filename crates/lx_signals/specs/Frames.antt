@@ -176,13 +176,13 @@ framed_by pages t taken = frame_below (frame_top taken.action t.regs.sp t.alt_st
 abbrev pub framed : Pages → LxThread → Option Framed
 framed pages t = option_map (framed_by pages t) t.taken
 
--- a function that computes it: where there is no such step, nothing changes
+-- a function that computes it: where there is no such step, nothing changes; memory is never wanting
 abbrev pub Frames : Option Framed → Pages → Pages → LxThread → LxThread → Result (Option ℕ) LxRefusal → Type 0
 Frames (Some f) pages pages' t t' (Ok stored) = (pages' ≡ f.pages) × (t' ≡ f.thread) × (stored ≡ f.stored)
 Frames None pages pages' t t' (Ok stored) = ⊥
 Frames (Some f) pages pages' t t' (Err NoStep) = ⊥
 Frames None pages pages' t t' (Err NoStep) = (pages' ≡ pages) × (t' ≡ t)
-Frames o pages pages' t t' (Err NoMemory) = (pages' ≡ pages) × (t' ≡ t)
+Frames o pages pages' t t' (Err NoMemory) = ⊥
 
 -- ---- rt_sigreturn
 

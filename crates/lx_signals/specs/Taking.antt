@@ -254,10 +254,10 @@ take_thread actions pages pending list sig t = take_by actions pages pending t l
 abbrev pub Gives : Delivered → LxThread → List SigInfo → List Action → Fate → Type 0
 Gives d t' pending' actions' fate = (t' ≡ d.thread) × (pending' ≡ d.pending) × (actions' ≡ d.actions) × (fate ≡ d.fate)
 
--- the same of a step: where there is none, or memory is wanting, nothing changes
+-- the same of a step: where there is none, nothing changes; memory is never wanting
 abbrev pub Delivers : Option Delivered → LxThread → LxThread → List SigInfo → List SigInfo → List Action → List Action → Result Fate LxRefusal → Type 0
 Delivers (Some d) t t' pending pending' actions actions' (Ok fate) = Gives d t' pending' actions' fate
 Delivers None t t' pending pending' actions actions' (Ok fate) = ⊥
 Delivers (Some d) t t' pending pending' actions actions' (Err NoStep) = ⊥
 Delivers None t t' pending pending' actions actions' (Err NoStep) = (t' ≡ t) × (pending' ≡ pending) × (actions' ≡ actions)
-Delivers o t t' pending pending' actions actions' (Err NoMemory) = (t' ≡ t) × (pending' ≡ pending) × (actions' ≡ actions)
+Delivers o t t' pending pending' actions actions' (Err NoMemory) = ⊥
