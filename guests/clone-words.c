@@ -5,8 +5,9 @@
 enum { PLAIN = THREAD_FLAGS & ~(SET_POINTER | STORE_FOR_PARENT | CLEAR_AT_END) };
 
 static struct thread thread;
-static u32 for_parent, for_child, done, words[3], seen;
-static u64 pointer;
+static u32 for_parent, for_child, done, words[3];
+static volatile u32 seen;
+static volatile u64 pointer;
 
 static i64 work(u64 n)
 {

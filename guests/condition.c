@@ -5,7 +5,7 @@ enum { MAKERS = 3, TAKERS = 4, NUMBERS = 30, ROOM = 4 };
 
 static struct thread makers[MAKERS], takers[TAKERS];
 static u32 lock, can_put, can_take;
-static u64 queue[ROOM], held, first, most, ended, taken[TAKERS], sums[TAKERS];
+static volatile u64 queue[ROOM], held, first, most, ended, taken[TAKERS], sums[TAKERS];
 
 static i64 make(u64 n)
 {

@@ -8,7 +8,7 @@ enum { THREADS = COUNT(sets) };
 static struct thread threads[THREADS];
 static u32 word, ended, all;
 static u32 woken[THREADS];
-static i64 answers[THREADS];
+static volatile i64 answers[THREADS];
 
 static i64 work(u64 n)
 {

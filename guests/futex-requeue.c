@@ -6,7 +6,7 @@ enum { THREADS = 10 };
 static struct thread threads[THREADS];
 static u32 one, other, ended;
 static u32 woken[THREADS];
-static i64 answers[THREADS];
+static volatile i64 answers[THREADS];
 
 static i64 at_one(u64 n)
 {

@@ -3,7 +3,7 @@
 
 static struct thread thread;
 static u32 word;
-static i64 answer_of_thread;
+static volatile i64 answer_of_thread;
 
 static i64 wait_long(u64 absolute)
 {

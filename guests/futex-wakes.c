@@ -6,7 +6,7 @@ enum { THREADS = 7 };
 static struct thread threads[THREADS];
 static u32 word, beside, ended;
 static u32 woken[THREADS];
-static i64 answers[THREADS];
+static volatile i64 answers[THREADS];
 
 static i64 work(u64 n)
 {

@@ -4,8 +4,9 @@
 enum { THREADS = 8, TIMES = 40 };
 
 static struct thread threads[THREADS];
-static u32 lock, inside, most;
-static u64 sum, times[THREADS];
+static u32 lock;
+static volatile u32 inside, most;
+static volatile u64 sum, times[THREADS];
 
 static i64 work(u64 n)
 {

@@ -7,9 +7,9 @@ enum { RING = 2100 };
 static struct thread thread;
 static struct lock ring[RING], locks[3], pending_lock;
 static struct head head;
-static i64 tid;
+static volatile i64 tid;
 // What the thread does to the list when its number is known.
-static void (*prepare)(void);
+static void (*volatile prepare)(void);
 
 static i64 own(u64 n)
 {

@@ -6,7 +6,7 @@ static struct thread owner, waiters_of[5];
 static struct lock held, awaited, of_other, odd, pending_lock;
 static struct head head;
 static u32 is_ready, may_end;
-static i64 tid;
+static volatile i64 tid;
 
 static i64 own(u64 n)
 {

@@ -5,8 +5,8 @@
 enum { THREADS = 8, ROUNDS = 3 };
 
 static struct thread threads[THREADS];
-static u64 results[THREADS];
-static u32 numbers[THREADS];
+static volatile u64 results[THREADS];
+static volatile u32 numbers[THREADS];
 static i64 process;
 
 static i64 work(u64 n)

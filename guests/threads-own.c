@@ -15,7 +15,7 @@ struct header {
 
 static const struct header *own;
 static u8 blocks[THREADS + 1][256] __attribute__((aligned(64)));
-static u64 sums[THREADS];
+static volatile u64 sums[THREADS];
 static struct thread threads[THREADS];
 
 // A block with the first values of the variables, behind two words.
