@@ -16,7 +16,9 @@ static i64 own(u64 n)
     line("its head", (i64)told);
     tid = gettid();
     answer("set_robust_list of another size", set_robust_list(&head, 23));
-    answer("set_robust_list", set_robust_list(&head, HEAD_SIZE));
+    // Without a list nobody would be woken.
+    if (set_robust_list(&head, HEAD_SIZE) != 0)
+        exit_group(1);
     held.word = tid;
     awaited.word = tid | WAITERS;
     of_other.word = 12345 | WAITERS;
