@@ -62,9 +62,9 @@ int guest(int count, char **arguments)
     hex_line("and after it", words[1]);
 
     // Words that can't be written make no difference.
-    i64 bad = new_pages(PAGE);
-    mprotect(bad, PAGE, 0);
-    truth("a thread starts", run(PLAIN | STORE_FOR_PARENT | STORE_FOR_CHILD | CLEAR_AT_END, 4, (void *)bad, 0, (void *)bad) > 0);
+    void *bad = (void *)new_pages(PAGE);
+    mprotect((u64)bad, PAGE, 0);
+    truth("a thread starts", run(PLAIN | STORE_FOR_PARENT | STORE_FOR_CHILD | CLEAR_AT_END, 4, bad, 0, bad) > 0);
 
     answer("threads without handlers", clone_with(0x10f00 & ~0x800, prepared(&thread, work, 5), 0, 0, 0));
     answer("handlers without memory", clone_with(0x10f00 & ~0x100, prepared(&thread, work, 6), 0, 0, 0));

@@ -1,5 +1,5 @@
-// A condition whose waiters are moved to the lock when all are signalled: one is woken, and each that gives the lock wakes the
-// next.
+// A condition whose waiters are moved to the lock when all are signalled: one is woken, and each that gives the lock wakes
+// the next.
 #include "locks.h"
 
 enum { THREADS = 9, ROUNDS = 3 };

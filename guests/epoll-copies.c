@@ -1,5 +1,5 @@
-// Copies and closed descriptors in an epoll: an interest is one of a descriptor's number and its open file, and lives as long
-// as the open file.
+// Copies and closed descriptors in an epoll: an interest is one of a descriptor's number and its open file, and lives as
+// long as the open file.
 #include "epolls.h"
 
 static u8 buffer[100];

@@ -1,4 +1,5 @@
-// An exclusive store fails where another thread has stored to the same 16 bytes since the exclusive load, even what was there.
+// An exclusive store fails where another thread has stored to the same 16 bytes since the exclusive load, even what was
+// there.
 #include "threads.h"
 
 static struct {

@@ -1,5 +1,5 @@
-// Signals to threads: each takes its own, one of the process goes to a thread that doesn't block it, and a new thread has the
-// mask of the one that starts it and no pending signals.
+// Signals to threads: each takes its own, one of the process goes to a thread that doesn't block it, and a new thread has
+// the mask of the one that starts it and no pending signals.
 #include "signals.h"
 #include "threads.h"
 
