@@ -1,4 +1,5 @@
 // What the guests in C share: calls to the system by SVC, printing through write, and the start. There is no C library.
+#pragma once
 
 typedef unsigned char u8;
 typedef unsigned short u16;
@@ -87,6 +88,44 @@ static inline i64 read(u64 descriptor, void *at, u64 count) { return read_at(des
 static inline i64 write(u64 descriptor, const void *at, u64 count) { return write_at(descriptor, (u64)at, count); }
 static inline i64 readv(u64 descriptor, struct vector *at, u64 count) { return readv_at(descriptor, (u64)at, count); }
 static inline i64 writev(u64 descriptor, struct vector *at, u64 count) { return writev_at(descriptor, (u64)at, count); }
+
+// A time or a length of time.
+struct time {
+    i64 seconds, nanoseconds;
+};
+
+static inline i64 clock_gettime(u64 clock, void *at) { return system_call(113, clock, (u64)at, 0, 0, 0, 0); }
+static inline i64 nanosleep(const void *length, void *rest)
+{
+    return system_call(101, (u64)length, (u64)rest, 0, 0, 0, 0);
+}
+
+// The time of the clock that never goes back, in nanoseconds.
+static inline u64 now(void)
+{
+    struct time time = {};
+    clock_gettime(1, &time);
+    return time.seconds * 1000000000 + time.nanoseconds;
+}
+
+// The timeout's place has a count for the operations that move or wake waiters of a second word.
+static inline i64 futex(const void *at, u64 operation, u64 value, u64 timeout, const void *second, u64 value3)
+{
+    return system_call(98, (u64)at, operation, value, timeout, (u64)second, value3);
+}
+
+enum {
+    FUTEX_WAIT = 0,
+    FUTEX_WAKE = 1,
+    FUTEX_REQUEUE = 3,
+    FUTEX_CMP_REQUEUE = 4,
+    FUTEX_WAKE_OP = 5,
+    FUTEX_WAIT_BITSET = 9,
+    FUTEX_WAKE_BITSET = 10,
+    FUTEX_PRIVATE = 128,
+    FUTEX_REAL_TIME = 256,
+    ALL = 0x7fffffff,
+};
 
 // Flags and choices of the calls.
 enum {
@@ -226,6 +265,8 @@ static inline void truth(const char *name, int holds)
 static inline const char *error_name(i64 error)
 {
     switch (error) {
+    case 1: return "EPERM";
+    case 2: return "ENOENT";
     case 3: return "ESRCH";
     case 4: return "EINTR";
     case 9: return "EBADF";
@@ -233,14 +274,18 @@ static inline const char *error_name(i64 error)
     case 12: return "ENOMEM";
     case 13: return "EACCES";
     case 14: return "EFAULT";
+    case 17: return "EEXIST";
     case 19: return "ENODEV";
     case 22: return "EINVAL";
     case 23: return "ENFILE";
     case 24: return "EMFILE";
     case 25: return "ENOTTY";
+    case 28: return "ENOSPC";
     case 29: return "ESPIPE";
     case 32: return "EPIPE";
     case 38: return "ENOSYS";
+    case 40: return "ELOOP";
+    case 110: return "ETIMEDOUT";
     default: return 0;
     }
 }

@@ -1,0 +1,5 @@
+// The guest condition with pairs of exclusive accesses in place of atomic instructions.
+#define EXCLUSIVES
+#include "threads.h"
+
+#include "condition.c"

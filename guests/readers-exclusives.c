@@ -1,0 +1,5 @@
+// The guest readers with pairs of exclusive accesses in place of atomic instructions.
+#define EXCLUSIVES
+#include "threads.h"
+
+#include "readers.c"

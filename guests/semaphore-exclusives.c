@@ -1,0 +1,5 @@
+// The guest semaphore with pairs of exclusive accesses in place of atomic instructions.
+#define EXCLUSIVES
+#include "threads.h"
+
+#include "semaphore.c"
