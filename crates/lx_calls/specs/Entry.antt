@@ -13,7 +13,7 @@ use Rattle.lx_machine.specs.Calls.{argument, low_argument, refused, first_refusa
 use Rattle.lx_machine.specs.declared.calls.LxCall.{LxCall}
 use Rattle.lx_machine.specs.declared.calls.Piece.{Piece}
 use Rattle.lx_epolls.specs.Epolls.{epoll_create_refusals, epoll_ctl_refusals, epoll_ctl_pieces, epoll_pwait_refusals, epoll_pwait_pieces}
-use Rattle.lx_threads.specs.Clones.{clone_refusals, set_robust_list_refusals}
+use Rattle.lx_clones.specs.Clones.{clone_refusals, set_robust_list_refusals}
 use Rattle.lx_threads.specs.Futexes.{futex_refusals, futex_pieces}
 use Rattle.lx_threads.specs.Time.{nanosleep_pieces, clock_gettime_refusals}
 use Rattle.lx_signals.specs.Sending.{kill_refusals, tkill_refusals, tgkill_refusals}

@@ -9,7 +9,7 @@ use Rattle.lx_machine.specs.declared.futexes.Mark.{Mark}
 use Rattle.lx_machine.specs.declared.state.LinuxState.{LinuxState}
 use Rattle.lx_machine.specs.declared.threads.Life.TheVariants.{Dying}
 use Rattle.lx_machine.specs.declared.threads.LxThread.{LxThread}
-use Rattle.lx_threads.specs.Clones.{started, without_child}
+use Rattle.lx_clones.specs.Clones.{started, without_child}
 use Rattle.lx_threads.specs.Deaths.{Marked, marked, begun, death_marked}
 use Rattle.lx_calls.specs.ProcessCalls.{all_free, ended_by, exit_group}
 

@@ -12,7 +12,7 @@ use Rattle.lx_machine.specs.declared.calls.Stage.{Stage}
 use Rattle.lx_machine.specs.declared.calls.Stage.TheVariants as stage
 use Rattle.lx_machine.specs.declared.death.Death.{Death}
 use Rattle.lx_epolls.specs.Epolls.{epoll_ctl_stage, epoll_pwait_stage}
-use Rattle.lx_threads.specs.Clones.{clone_stage, birth_stage, clone_not_stored}
+use Rattle.lx_clones.specs.Clones.{clone_stage, birth_stage, clone_not_stored}
 use Rattle.lx_threads.specs.Deaths.{death_stage, death_fetched, death_not_fetched, death_stored}
 use Rattle.lx_threads.specs.Futexes.{futex_stage, futex_fetched}
 use Rattle.lx_threads.specs.Time.{nanosleep_stage, clock_gettime_stage, timeout_fetched}

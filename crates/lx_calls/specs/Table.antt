@@ -23,7 +23,7 @@ use Rattle.lx_calls.specs.SignalSteps.{return, take, frame, kill, kill_in_call}
 use Rattle.lx_calls.specs.Waits.{on_files, clock, hold, move, expire, interrupt}
 use Rattle.lx_calls.specs.WholeCalls.{whole_effect}
 use Rattle.lx_epolls.specs.Epolls.{epoll_create1, epoll_ctl}
-use Rattle.lx_threads.specs.Clones.{with_robust_list, set_robust_list}
+use Rattle.lx_clones.specs.Clones.{with_robust_list, set_robust_list}
 use Rattle.lx_signals.specs.Frames.{sigreturn_regs, sigreturn_mask, sigreturn_call}
 use Rattle.lx_signals.specs.Masks.{sigprocmask_mask, sigprocmask_call, sigpending_call}
 use Rattle.lx_signals.specs.Stacks.{sigaltstack_stack, sigaltstack_call}

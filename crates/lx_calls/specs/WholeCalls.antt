@@ -14,7 +14,7 @@ use Rattle.lx_machine.specs.declared.calls.Stage.{Stage}
 use Rattle.lx_machine.specs.declared.calls.Stage.TheVariants as stage
 use Rattle.lx_machine.specs.declared.state.LinuxState.{LinuxState}
 use Rattle.lx_machine.specs.declared.threads.LxThread.{LxThread}
-use Rattle.lx_threads.specs.Clones.{Cloned, cloned, get_robust_list}
+use Rattle.lx_clones.specs.Clones.{Cloned, cloned, get_robust_list}
 use Rattle.lx_signals.specs.declared.sending.Sending.{Sending}
 use Rattle.lx_signals.specs.Sending.{queued, forgotten, kill_sending, tkill_sending, tgkill_sending, answered_by, pending_after, threads_after}
 use Rattle.lx_signals.specs.Actions.{sigaction_actions, sigaction_forgets, sigaction_call}

@@ -21,7 +21,7 @@ use lx_signals::masks::{
 use lx_signals::sending::{kill_refusal, tgkill_refusal, tkill_refusal};
 use lx_signals::sigreturn::sigreturn_pieces;
 use lx_signals::stacks::sigaltstack_pieces;
-use lx_threads::clones::{clone_refusal, set_robust_list_refusal};
+use lx_clones::clones::{clone_refusal, set_robust_list_refusal};
 use lx_threads::futexes::{futex_pieces, futex_refusal};
 use lx_threads::time::{clock_gettime_refusal, nanosleep_pieces};
 use std::alloc::Global;

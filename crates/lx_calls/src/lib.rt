@@ -1,4 +1,8 @@
 //! What the calls of the Linux machine do: the plain functions that compute the effects of `specs/`.
+//!
+//! What the machine's steps are for each call is `effects` in `specs/Table.antt`. `entry` has the refusals at entry and what a
+//! call fetches; `shape` what it does next; `memory_calls` and `process_calls` effects; and `transfers`, `reads`, `writes`,
+//! `readiness` and `vectors` the reads and writes.
 #![tactic(auto)]
 
 pub mod entry;

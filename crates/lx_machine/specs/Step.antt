@@ -1,6 +1,6 @@
 -- LStep: one step of the Linux machine, over a table of what the calls do; and LRun, a run of it. A guest that has ended takes
 -- no step.
-use Rattle.std.specs.Prelude.{ℕ, ◌+◌, Bool, true, false, ◌&&◌, nat_le, nat_lt, if◌then◌else◌, List, [], ◌∷◌, ◌++◌, length, take, drop, Option, Some, None, is_some}
+use Rattle.std.specs.Prelude.{ℕ, ◌+◌, Bool, ◌&&◌, nat_le, nat_lt, if◌then◌else◌, List, [], ◌∷◌, ◌++◌, length, take, drop, Option, Some, None, is_some}
 use Rattle.std.proofs.Math.Bool.{not}
 use Rattle.linux_abi.specs.declared.signals.LinuxSig.{LinuxSig}
 use Rattle.lx_machine.specs.Lists.{bind, at_place}
@@ -9,7 +9,7 @@ use Rattle.lx_memory.specs.Bytes.{bytes_at}
 use Rattle.lx_memory.specs.declared.right.Right.TheVariants.{Read, Write}
 use Rattle.lx_machine.specs.Memory.{is_allowed}
 use Rattle.lx_machine.specs.declared.state.LinuxState.{LinuxState}
-use Rattle.lx_machine.specs.Threads.{with_thread, without_thread, without_call, in_call_of}
+use Rattle.lx_machine.specs.Threads.{is_live, without_thread, without_call, in_call_of}
 use Rattle.lx_machine.specs.Instructions.{instruction, stored}
 use Rattle.lx_machine.specs.Interests.{side_holds, drained_side}
 use Rattle.lx_machine.specs.declared.calls.LxCall.{LxCall}
@@ -27,8 +27,6 @@ use Rattle.lx_machine.specs.declared.label.LxSide.{LxSide}
 use Rattle.lx_machine.specs.declared.label.PendingList.{PendingList}
 use Rattle.lx_machine.specs.declared.label.Pick.{Pick}
 use Rattle.lx_machine.specs.declared.threads.LxThread.{LxThread}
-use Rattle.lx_machine.specs.declared.threads.Life.{Life}
-use Rattle.lx_machine.specs.declared.threads.Life.TheVariants.{Live}
 use Rattle.lx_machine.specs.declared.threads.GuestEnd.{GuestEnd}
 
 -- What a step makes of a thread in a call: of the state in which the thread's place is free, the slot, the thread in no
@@ -77,11 +75,6 @@ pub record Effects : Type 0 where
   pub kill_in_call : InCall
 
 -- ---- threads that may step
-
--- clone has let it start, and it has not left
-abbrev pub is_live : Life → Bool
-is_live Live = true
-is_live _ = false
 
 -- a live thread in no call, without a trap, a signal to be delivered, or its doom
 abbrev pub is_user : LxThread → Bool

@@ -1,6 +1,6 @@
 -- Words on threads. A mark is the exclusive monitor of a thread (DDI 0487, B2.9): it ends by a write of another thread to
 -- its granule.
-use Rattle.std.specs.Prelude.{ℕ, suc, ◌+◌, ◌-◌, ◌==◌, Bool, ◌&&◌, nat_le, if◌then◌else◌, List, [], ◌∷◌, Option, Some, None, ℤ}
+use Rattle.std.specs.Prelude.{ℕ, suc, ◌+◌, ◌-◌, ◌==◌, Bool, true, false, ◌&&◌, nat_le, if◌then◌else◌, List, [], ◌∷◌, Option, Some, None, ℤ}
 use Rattle.places.specs.Places as place
 use Rattle.a64_model.specs.declared.regs.Regs.{Regs}
 use Rattle.linux_abi.specs.declared.signals.LinuxSig.{LinuxSig}
@@ -8,7 +8,14 @@ use Rattle.lx_machine.specs.Lists.{with_place, without_place}
 use Rattle.lx_machine.specs.declared.state.LinuxState.{LinuxState}
 use Rattle.lx_machine.specs.declared.calls.LxCall.{LxCall}
 use Rattle.lx_machine.specs.declared.signals.Origin.TheVariants.{Address}
+use Rattle.lx_machine.specs.declared.threads.Life.{Life}
+use Rattle.lx_machine.specs.declared.threads.Life.TheVariants.{Live}
 use Rattle.lx_machine.specs.declared.threads.LxThread.{LxThread}
+
+-- clone has let it start, and it has not left
+abbrev pub is_live : Life → Bool
+is_live Live = true
+is_live _ = false
 
 -- the thread in slot s is this
 abbrev pub with_thread : LinuxState → ℕ → LxThread → LinuxState

@@ -17,7 +17,7 @@ use Rattle.lx_machine.specs.Lists.{bind, at_place, with_place}
 use Rattle.lx_machine.specs.declared.calls.Stage.TheVariants as stage
 use Rattle.linux_abi.specs.Call.{call_of}
 use Rattle.lx_run.specs.declared.whole_steps.Taken.{Taken}
-use Rattle.lx_threads.specs.Clones.{started, without_child}
+use Rattle.lx_clones.specs.Clones.{started, without_child}
 use Rattle.lx_calls.specs.ProcessCalls.{all_free, ended_by}
 use Rattle.lx_calls.specs.Shape.{stage_of}
 use Rattle.lx_calls.specs.SignalSteps.{return, take, frame}

@@ -1,4 +1,4 @@
-//! Start, Leave and Gone: how threads begin and end (clone(2), _exit(2)).
+//! Start and Leave: how threads begin and end (clone(2), _exit(2)).
 ghost use Rattle.std.specs.Prelude.{◌≡◌};
 ghost use Rattle.lx_calls.specs.Lives as spec;
 ghost use Rattle.lx_calls.specs.ProcessCalls.{all_free, ended_by};
@@ -11,7 +11,7 @@ use lx_machine::calls::{LxCall, Stage};
 use lx_machine::refusal::LxRefusal;
 use lx_machine::state::{LinuxState, THREADS};
 use lx_machine::threads::{GuestEnd, Life, LxThread};
-use lx_threads::clones::started;
+use lx_clones::clones::started;
 use lx_threads::deaths::begun;
 use std::alloc::Global;
 

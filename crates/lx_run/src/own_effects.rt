@@ -19,7 +19,7 @@ use lx_machine::threads::LxThread;
 use lx_signals::masks::{sigpending, sigprocmask};
 use lx_signals::sigreturn::sigreturn;
 use lx_signals::stacks::sigaltstack;
-use lx_threads::clones::set_robust_list;
+use lx_clones::clones::set_robust_list;
 use std::alloc::Global;
 
 /// The process and its user and group ids.

@@ -4,7 +4,7 @@ ghost use Rattle.lx_memory.specs.Bytes.{bytes_at, IsMapped};
 ghost use Rattle.lx_machine.specs.Calls.{refused};
 ghost use Rattle.lx_machine.specs.Threads.{in_call_of};
 ghost use Rattle.lx_machine.specs.Step as machine;
-ghost use Rattle.lx_machine.specs.Step.{with_fetched, masked};
+ghost use Rattle.lx_machine.specs.Step.{with_fetched};
 ghost use Rattle.lx_calls.specs.Shape.{fetched, mask_of};
 ghost use Rattle.lx_calls.specs.Table.{effects};
 ghost use Rattle.lx_run.specs.CallSteps.{CallGoes};
@@ -19,6 +19,7 @@ use lx_machine::refusal::LxRefusal;
 use lx_machine::state::LinuxState;
 use lx_machine::threads::LxThread;
 use lx_memory::{Memory, Right};
+use lx_signals::masks::mask_for_call;
 use std::alloc::Global;
 
 /// The bytes of a range of mapped pages.
@@ -116,16 +117,6 @@ fn first(bytes: &[u8], len: u64) -> &[u8]
     ensures { result.now ≡ take len bytes.now }
 {
     &bytes[..len.min(bytes.len() as u64) as usize]
-}
-
-/// A call that uses a mask for its time: the thread gets its own back when the call returns.
-fn mask_for_call(thread: &mut LxThread, mask: Option<u64>)
-    ensures { thread.new ≡ masked mask thread.old }
-{
-    if let Some(mask) = mask {
-        thread.saved_mask = Some(thread.mask);
-        thread.mask = mask;
-    }
 }
 
 /// Fetch of this piece.

@@ -1,7 +1,7 @@
 //! Steps of a thread: its instructions, and the ends of marks.
 ghost use Rattle.std.specs.Prelude.{◌≡◌, ◌≤◌, ◌<◌, ◌+◌, ◌^◌, ◌++◌, take, drop, length, Some, if◌then◌else◌};
 ghost use Rattle.lx_machine.specs.Threads.{is_within, mark_left, unmarked, unmarked_from, after_write};
-ghost use Rattle.lx_machine.specs.Step.{is_user, outside_call};
+ghost use Rattle.lx_machine.specs.Step.{outside_call};
 ghost use Rattle.lx_machine.specs.Instructions as spec;
 ghost use Rattle.lx_calls.specs.Entry.{entered};
 ghost use Rattle.lx_run.specs.Places.{ran_at, RunsAt, ran_in, RunsIn};
@@ -11,8 +11,9 @@ use crate::instruction::{Written, run};
 use lx_machine::buffer::NoMemory;
 use lx_machine::refusal::LxRefusal;
 use lx_machine::state::{LinuxState, THREADS};
-use lx_machine::threads::{Life, LxThread};
+use lx_machine::threads::LxThread;
 use lx_memory::Memory;
+use lx_signals::taking::is_user;
 use std::alloc::Global;
 
 /// What is left of a mark after another thread has written to these granules.
@@ -65,13 +66,6 @@ pub(crate) fn unmark(state: &mut LinuxState, slot: u8, at: u128, len: u128)
     if len != 0 {
         unmark_from(0, slot, at / 16, (at + len - 1) / 16, &mut state.threads);
     }
-}
-
-/// Whether the thread is live and in no call, and has no trap, no signal to be delivered, and no doom.
-pub(crate) fn is_user(thread: &LxThread) -> bool
-    ensures { result ≡ is_user thread.now }
-{
-    matches!(thread.life, Life::Live) && thread.call.is_none() && thread.trap.is_none() && thread.taken.is_none() && !thread.is_doomed
 }
 
 /// The instruction of the thread in this place, if it has one that may run.

@@ -20,7 +20,7 @@ use lx_signals::actions::sigaction;
 use lx_signals::sending::{
     Sending, answer_by, forget, kill_sending, perform, queued, tgkill_sending, tkill_sending,
 };
-use lx_threads::clones::{cloned, get_robust_list};
+use lx_clones::clones::{cloned, get_robust_list};
 use std::alloc::Global;
 use std::mem;
 

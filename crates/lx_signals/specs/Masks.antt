@@ -16,7 +16,6 @@ use Rattle.lx_machine.specs.declared.calls.Piece.{Piece}
 use Rattle.lx_machine.specs.declared.calls.Stage.{Stage}
 use Rattle.lx_machine.specs.declared.calls.Stage.TheVariants as stage
 use Rattle.lx_machine.specs.declared.signals.SigInfo.{SigInfo}
-use Rattle.lx_machine.specs.declared.threads.LxThread.{LxThread}
 
 -- ---- what the signal calls fetch and store
 
@@ -42,10 +41,6 @@ is_no_set_size size = not (size == 8)
 -- SIGKILL and SIGSTOP, which are 9 and 19, are never blocked
 abbrev pub blockable : ℕ → ℕ
 blockable mask = bit_and mask (2 ^ 64 - 1 - 2 ^ 8 - 2 ^ 18)
-
--- the thread's mask is this while a call lasts, and the thread keeps the mask before
-abbrev pub masked : ℕ → LxThread → LxThread
-masked mask t = record t { mask = blockable mask; saved_mask = Some t.mask }
 
 -- ---- rt_sigprocmask(how, set, old, size)
 

@@ -9,12 +9,11 @@ use Rattle.linux_abi.specs.declared.errno.LinuxErrno.TheVariants as errno
 use Rattle.linux_abi.specs.declared.signals.LinuxSig.{LinuxSig}
 use Rattle.lx_machine.specs.Calls.{low_argument, answered, refused}
 use Rattle.lx_machine.specs.Signals.{is_of, real_time_count, without_all}
+use Rattle.lx_machine.specs.Threads.{is_live}
 use Rattle.lx_machine.specs.declared.calls.LxCall.{LxCall}
 use Rattle.lx_machine.specs.declared.signals.Action.{Action}
 use Rattle.lx_machine.specs.declared.signals.Origin.TheVariants.{Sender}
 use Rattle.lx_machine.specs.declared.signals.SigInfo.{SigInfo}
-use Rattle.lx_machine.specs.declared.threads.Life.{Life}
-use Rattle.lx_machine.specs.declared.threads.Life.TheVariants as life
 use Rattle.lx_machine.specs.declared.threads.LxThread.{LxThread}
 use Rattle.lx_signals.specs.Taking.{action_among, is_ignored}
 use Rattle.lx_signals.specs.declared.sending.Sending.{Sending}
@@ -53,11 +52,6 @@ forgotten sig [] = []
 forgotten sig (place ∷ places) = forgotten_at sig place ∷ forgotten sig places
 
 -- ---- who gets a signal
-
-abbrev pub is_live : Life → Bool
-is_live life.Live = true
-is_live life.Reserved = false
-is_live life.Dying = false
 
 -- a live thread with this tid is in the place; it is in one of the places
 abbrev pub is_live_as : ℕ → Option LxThread → Bool

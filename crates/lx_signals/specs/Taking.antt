@@ -187,7 +187,7 @@ return_thread restarts stage actions pending named t = bind t.call (λ c. return
 
 -- ---- Interrupt
 
--- the thread and the shared pending signals after a signal has ended the wait of a call
+-- the thread and the shared pending signals after a signal has left its list
 pub record Interrupted : Type 0 where
   pub thread : LxThread
   pub pending : List SigInfo
@@ -196,24 +196,10 @@ pub record Interrupted : Type 0 where
 abbrev pub with_kept : LxCall → PendingList → SigInfo → LxCall
 with_kept c list info = record c { kept = Some (record { list = list; info = info }) }
 
+-- the signal that the call keeps is pending no more
 abbrev pub kept_from : LxThread → List SigInfo → PendingList → SigInfo → Interrupted
 kept_from t pending Own info = record { thread = record t { pending = without_signal info.signal t.pending }; pending = pending }
 kept_from t pending Shared info = record { thread = t; pending = without_signal info.signal pending }
-
-abbrev pub kept_by : LxThread → List SigInfo → PendingList → LxCall → SigInfo → Interrupted
-kept_by t pending list c info = kept_from (record t { call = Some (with_kept c list info) }) pending list info
-
--- a signal that the thread may take leaves its list, and is kept in the thread's call
-abbrev pub interrupted : LxThread → List SigInfo → PendingList → LinuxSig → Option Interrupted
-interrupted t pending list sig = bind t.call (λ c. option_map (kept_by t pending list c) (found_in t.mask (listed t.pending pending list) sig))
-
--- a function that computes it: where there is no such step, nothing changes
-abbrev pub Interrupts : Option Interrupted → LxThread → LxThread → List SigInfo → List SigInfo → Result Unit LxRefusal → Type 0
-Interrupts (Some i) t t' pending pending' (Ok done) = (t' ≡ i.thread) × (pending' ≡ i.pending)
-Interrupts None t t' pending pending' (Ok done) = ⊥
-Interrupts (Some i) t t' pending pending' (Err NoStep) = ⊥
-Interrupts None t t' pending pending' (Err NoStep) = (t' ≡ t) × (pending' ≡ pending)
-Interrupts o t t' pending pending' (Err NoMemory) = (t' ≡ t) × (pending' ≡ pending)
 
 -- ---- Take
 

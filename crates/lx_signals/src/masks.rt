@@ -2,6 +2,7 @@
 ghost use Rattle.std.specs.Prelude.{◌≡◌, take, OnOk, OnErr, IfOk};
 ghost use Rattle.places.specs.Places.{bytes_of};
 ghost use Rattle.lx_machine.specs.Calls.{first_refusal};
+ghost use Rattle.lx_machine.specs.Step.{masked};
 ghost use Rattle.lx_signals.specs.Masks as spec;
 
 use crate::numbers::{
@@ -25,12 +26,14 @@ pub fn blockable(mask: u64) -> u64
     mask & BLOCKABLE
 }
 
-/// The thread's mask is this while a call lasts, and the thread keeps the mask before.
-pub fn mask_for_call(mask: u64, thread: &mut LxThread)
-    ensures { thread.new ≡ spec.masked mask thread.old }
+/// A call that uses a mask for its time: the thread gets its own back when the call returns.
+pub fn mask_for_call(thread: &mut LxThread, mask: Option<u64>)
+    ensures { thread.new ≡ masked mask thread.old }
 {
-    thread.saved_mask = Some(thread.mask);
-    thread.mask = blockable(mask);
+    if let Some(mask) = mask {
+        thread.saved_mask = Some(thread.mask);
+        thread.mask = mask;
+    }
 }
 
 /// rt_sigprocmask(2).

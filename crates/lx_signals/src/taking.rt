@@ -2,7 +2,7 @@
 ghost use Rattle.std.specs.Prelude.{◌≡◌, ◌<◌, Some, None, if◌then◌else◌};
 ghost use Rattle.lx_machine.specs.Step.{is_user};
 ghost use Rattle.lx_signals.specs.Taking as spec;
-ghost use Rattle.lx_signals.specs.Taking.{has_flag, action_among, with_action, found_in, listed, regs_after, given_back, Gives, Delivers, Interrupts};
+ghost use Rattle.lx_signals.specs.Taking.{has_flag, action_among, with_action, found_in, listed, regs_after, given_back, Gives, Delivers};
 
 use a64_model::regs::Regs;
 use linux_abi::LinuxSig;
@@ -417,26 +417,6 @@ pub fn remove_from(thread: &mut LxThread, shared: &mut Pending, list: PendingLis
     }
 }
 
-/// Interrupt: a signal that the thread may take leaves its list, and is kept in the thread's call, whose wait it ends.
-pub fn interrupt(
-    thread: &mut LxThread,
-    shared: &mut Pending,
-    list: PendingList,
-    signal: LinuxSig,
-) -> Result<(), LxRefusal>
-    ensures { Interrupts (spec.interrupted thread.old shared.old list signal) thread.old thread.new shared.old shared.new result }
-{
-    let Some(call) = &mut thread.call else {
-        return Err(LxRefusal::NoStep);
-    };
-    let Some(info) = found(thread.mask, &thread.pending, shared, list, signal) else {
-        return Err(LxRefusal::NoStep);
-    };
-    call.kept = Some(Kept { list, info });
-    remove_from(thread, shared, list, info);
-    Ok(())
-}
-
 /// The code of a trap: that of SIGSEGV tells whether the address's page is mapped now (sigaction(2)).
 fn segv_code(memory: &Memory, origin: Origin, code: i32) -> i32
     ensures { result ≡ spec.segv_code memory.now origin code }
@@ -506,13 +486,15 @@ fn force(
     Ok(force_by(action, actions, memory, thread, shared, trap))
 }
 
-/// Whether the thread is in no call, without a trap, a signal to be delivered, or its doom.
-fn is_user(thread: &LxThread) -> bool
+/// Whether the thread is live and in no call, and has no trap, no signal to be delivered, and no doom.
+pub fn is_user(thread: &LxThread) -> bool
     ensures { result ≡ is_user thread.now }
 {
     matches!(thread.life, Life::Live)
         && thread.call.is_none()
-        && thread.trap.is_none() && thread.taken.is_none() && !thread.is_doomed
+        && thread.trap.is_none()
+        && thread.taken.is_none()
+        && !thread.is_doomed
 }
 
 /// Take, of a thread: the signal of its trap, named as its own, and else a pending signal of a thread in no call (signal(7)).

@@ -6,13 +6,13 @@ use crate::masks::{sigpending, sigprocmask};
 use crate::sending::{answer_by, forget, kill_sending, perform, queued};
 use crate::sigreturn::{sigreturn, sigreturn_pieces, sigreturn_stage};
 use crate::stacks::sigaltstack;
-use crate::taking::{DEFAULT_ACTION, interrupt, return_thread, take_thread};
+use crate::taking::{DEFAULT_ACTION, remove_from, return_thread, take_thread};
 use a64_model::regs::Regs;
 use linux_abi::LinuxSig;
 use lx_machine::calls::{LxCall, Piece, Stage};
 use lx_machine::label::PendingList;
 use lx_machine::memory::is_allowed;
-use lx_machine::signals::{Action, Origin, Pending, SigInfo, Taken};
+use lx_machine::signals::{Action, Kept, Origin, Pending, SigInfo, Taken};
 use lx_machine::threads::{AltStack, Life, LxThread};
 use lx_memory::{Memory, Right};
 use std::alloc::Global;
@@ -300,11 +300,14 @@ fn a_wait_is_ended_and_starts_again(rt: HostRuntime) -> Result<(), Fail> {
     shared.push(from_kill(LinuxSig::SIGUSR1))?;
     let mut t = thread();
     t.regs.x[0] = 9;
-    t.call = Some(LxCall::new(alloc, 63, [3, 0, 0, 0, 0, 0]));
-    interrupt(&mut t, &mut shared, PendingList::Shared, LinuxSig::SIGUSR1)?;
-    if let Some(call) = &mut t.call {
-        call.answer(u64::MAX - 3);
-    }
+    let mut call = LxCall::new(alloc, 63, [3, 0, 0, 0, 0, 0]);
+    let info = from_kill(LinuxSig::SIGUSR1);
+    let list = PendingList::Shared;
+    remove_from(&mut t, &mut shared, list, info);
+    assert_eq!(rt; shared.has(LinuxSig::SIGUSR1), false);
+    call.kept = Some(Kept { list, info });
+    call.answer(u64::MAX - 3);
+    t.call = Some(call);
     let fate = return_thread(true, Stage::Return, &mut actions, &mut t, &mut shared, None)?;
     assert_eq!(rt; fate.ends, None);
     assert_eq!(rt; t.regs.pc, 0x40_000c);

@@ -1,4 +1,3 @@
-pub mod Clones
 pub mod Deaths
 pub mod Futexes
 pub mod Time

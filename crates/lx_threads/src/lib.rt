@@ -1,8 +1,7 @@
-//! Futexes, threads, their death, and time in the Linux machine: the plain functions that compute the definitions of
+//! Futexes, the death of threads, and time in the Linux machine: the plain functions that compute the definitions of
 //! `specs/`.
 #![tactic(auto)]
 
-pub mod clones;
 pub mod deaths;
 pub mod futexes;
 #[cfg(test)]

@@ -1,6 +1,6 @@
 -- clone, and the robust list of a thread. Source: clone(2), set_robust_list(2), get_robust_list(2), gettid(2). Which threads
 -- are made is this project's own: those that share all with their process.
-use Rattle.std.specs.Prelude.{ℕ, ◌+◌, ◌-◌, ◌/◌, ◌%◌, ◌^◌, ◌==◌, Bool, true, false, ◌&&◌, nat_lt, bit_and, if◌then◌else◌, List, [], ◌∷◌, ◌++◌, replicate, drop, slice_set, Option, Some, None}
+use Rattle.std.specs.Prelude.{ℕ, ◌+◌, ◌-◌, ◌/◌, ◌%◌, ◌^◌, ◌==◌, Bool, false, ◌&&◌, nat_lt, bit_and, if◌then◌else◌, List, [], ◌∷◌, ◌++◌, replicate, drop, slice_set, Option, Some, None}
 use Rattle.std.proofs.Math.Bool.{not}
 use Rattle.places.specs.Places.{bytes_of}
 use Rattle.a64_model.specs.declared.regs.Regs.{Regs}
@@ -9,12 +9,12 @@ use Rattle.linux_abi.specs.declared.errno.LinuxErrno.TheVariants as errno
 use Rattle.lx_machine.specs.Lists.{first_free, with_place}
 use Rattle.lx_machine.specs.Pieces.{piece, without_first}
 use Rattle.lx_machine.specs.Calls.{argument, low_argument, answered, answered_with, refused, has_other}
+use Rattle.lx_machine.specs.Threads.{is_live}
 use Rattle.lx_machine.specs.declared.calls.LxCall.{LxCall}
 use Rattle.lx_machine.specs.declared.calls.Piece.{Piece}
 use Rattle.lx_machine.specs.declared.calls.Stage.{Stage}
 use Rattle.lx_machine.specs.declared.calls.Stage.TheVariants as stage
 use Rattle.lx_machine.specs.declared.threads.AltStack.{AltStack}
-use Rattle.lx_machine.specs.declared.threads.Life.{Life}
 use Rattle.lx_machine.specs.declared.threads.Life.TheVariants as life
 use Rattle.lx_machine.specs.declared.threads.LxThread.{LxThread}
 
@@ -190,11 +190,6 @@ with_robust_list t c = record t { robust_head = argument c 0 }
 
 abbrev pub set_robust_list : LxCall → LxCall
 set_robust_list c = answered c 0
-
-abbrev pub is_live : Life → Bool
-is_live life.Reserved = false
-is_live life.Live = true
-is_live life.Dying = false
 
 -- a live thread with this tid
 abbrev pub is_living : ℕ → LxThread → Bool

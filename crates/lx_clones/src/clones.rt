@@ -4,7 +4,7 @@ ghost use Rattle.places.specs.Places.{bytes_of};
 ghost use Rattle.lx_machine.specs.Calls.{first_refusal, argument};
 ghost use Rattle.lx_machine.specs.Lists.{first_free, first_free_from};
 ghost use Rattle.lx_machine.specs.Pieces.{piece};
-ghost use Rattle.lx_threads.specs.Clones.{has_flag, shares_memory, shares_actions, is_thread, sets_tls, stores_for_parent, clears_for_child, stores_for_child, clone_refusals, no_regs, no_stack, reserved, store_at, stored_tid, tid_pieces, tid_bytes, with_child, place_for, cloned, clone_not_stored, clone_stage, birth_stage, child_regs, clear_address, started, without_child, set_robust_list_refusals, with_robust_list, set_robust_list, is_live, is_living, robust_list_of, asked_list, list_answered, get_robust_list};
+ghost use Rattle.lx_clones.specs.Clones.{has_flag, shares_memory, shares_actions, is_thread, sets_tls, stores_for_parent, clears_for_child, stores_for_child, clone_refusals, no_regs, no_stack, reserved, store_at, stored_tid, tid_pieces, tid_bytes, with_child, place_for, cloned, clone_not_stored, clone_stage, birth_stage, child_regs, clear_address, started, without_child, set_robust_list_refusals, with_robust_list, set_robust_list, is_living, robust_list_of, asked_list, list_answered, get_robust_list};
 
 use a64_model::regs::Regs;
 use byteorder::{ByteOrder, LittleEndian};

@@ -1,5 +1,5 @@
 use Rattle.std.proofs.Common.{length}
-use Rattle.lx_threads.proofs.clones.+first_free_from.Given as goal
+use Rattle.lx_clones.proofs.clones.+first_free_from.Given as goal
 
 abbrev pub decreases-first_free_from : goal.decreases-first_free_from
 decreases-first_free_from l = length l.places.now
