@@ -680,13 +680,13 @@ fn exclusive_mark_lost(rt: HostRuntime) -> Result<(), Fail> {
         Steps(0, 2),
         To(1, 172),
         Steps(0, 1),
-        Holds(0, 1),
+        Holds(0, 0, 1),
         To(0, 172),
         Answers(0, 1000),
         Steps(0, 1),
         To(1, 172),
         Steps(0, 1),
-        Holds(0, 0),
+        Holds(0, 0, 0),
         Status(0),
     ];
     assert_eq!(rt; played(rt.alloc(), &EXCLUSIVE, &script)?, script.len());

@@ -3,8 +3,20 @@
 #![tactic(auto)]
 
 #[cfg(test)]
+mod epolls;
+#[cfg(test)]
 mod futexes;
+#[cfg(test)]
+mod hostile;
+#[cfg(test)]
+mod robust;
 #[cfg(test)]
 mod scripts;
 #[cfg(test)]
+mod signals;
+#[cfg(test)]
 mod steps;
+#[cfg(test)]
+mod threads;
+#[cfg(test)]
+mod time;

@@ -27,8 +27,8 @@ pub enum Line {
     Answers(u8, i64),
     /// The same, where only Return is left.
     Returns(u8, i64),
-    /// The thread has this in x0.
-    Holds(u8, u64),
+    /// The thread has this in the register of this number, 0 to 30.
+    Holds(u8, usize, u64),
     /// The thread's call is to be done by this deadline.
     Deadline(u8, u64),
     /// This address has this word of 4 bytes.
@@ -92,16 +92,16 @@ fn steps(state: &mut LxState, alloc: Global, slot: u8, most: u32) -> Result<u32,
     Ok(most)
 }
 
-/// What x0 of the thread is.
-fn x0(state: &LxState, slot: u8) -> Option<u64> {
-    Some(*thread(state, slot)?.regs.x.first()?)
+/// What a register of the thread is.
+fn register(state: &LxState, slot: u8, number: usize) -> Option<u64> {
+    Some(*thread(state, slot)?.regs.x.get(number)?)
 }
 
 /// What the thread's call answers.
 fn answer(state: &mut LxState, alloc: Global, slot: u8) -> Result<Option<i64>, Fail> {
     for _ in 0..MANY {
         if stage(state, slot).is_none() {
-            return Ok(x0(state, slot).map(u64::cast_signed));
+            return Ok(register(state, slot, 0).map(u64::cast_signed));
         }
         if !step(state, alloc, slot)? {
             return Ok(None);
@@ -169,7 +169,7 @@ fn is_so(state: &mut LxState, alloc: Global, line: Line) -> Result<bool, Fail> {
         Line::Returns(slot, wanted) => {
             Ok(is_answered(state, slot) && answer(state, alloc, slot)? == Some(wanted))
         }
-        Line::Holds(slot, wanted) => Ok(x0(state, slot) == Some(wanted)),
+        Line::Holds(slot, number, wanted) => Ok(register(state, slot, number) == Some(wanted)),
         Line::Deadline(slot, wanted) => Ok(deadline(state, slot) == Some(wanted)),
         Line::Word(at, wanted) => Ok(word(state, at) == Some(wanted)),
         Line::Time(time) => take(state, alloc, &Label::Time(time)),
