@@ -1,5 +1,5 @@
 -- The steps of futex: Queue, Requeue, WakeOp, Release and Resume. Source: futex(2).
-use Rattle.std.specs.Prelude.{ℕ, Option, Some, None}
+use Rattle.std.specs.Prelude.{ℕ, Option, Some}
 use Rattle.std.specs.Option.{option_map}
 use Rattle.linux_abi.specs.Call.{call_of}
 use Rattle.linux_abi.specs.declared.calls.Call.{Call}

@@ -1,6 +1,6 @@
 -- How threads begin and end: clone, Start, exit as Leave, a death's Mark, and Gone. Source: clone(2), _exit(2), exit_group(2),
 -- get_robust_list(2).
-use Rattle.std.specs.Prelude.{ℕ, if◌then◌else◌, Option, Some, None}
+use Rattle.std.specs.Prelude.{ℕ, if◌then◌else◌, Option, Some}
 use Rattle.std.specs.Option.{option_map}
 use Rattle.lx_machine.specs.Lists.{bind, at_place}
 use Rattle.lx_machine.specs.Threads.{with_thread, in_call_of, after_write}

@@ -1,6 +1,6 @@
 -- exit_group, the ids, set_tid_address, sched_yield and uname. Source: _exit(2), exit_group(2), getpid(2), getuid(2),
 -- gettid(2), set_tid_address(2), sched_yield(2), uname(2). Which numbers and names these are is this project's own.
-use Rattle.std.specs.Prelude.{ℕ, ◌-◌, ◌%◌, Bool, true, false, if◌then◌else◌, List, [], ◌∷◌, ◌++◌, length, codes, replicate, Option, Some, None}
+use Rattle.std.specs.Prelude.{ℕ, ◌-◌, ◌%◌, Bool, true, false, List, [], ◌∷◌, ◌++◌, length, codes, replicate, Option, Some, None}
 use Rattle.lx_machine.specs.Pieces.{piece}
 use Rattle.lx_machine.specs.Calls.{argument, low_argument, answered, answered_with}
 use Rattle.lx_machine.specs.declared.state.LinuxState.{LinuxState}

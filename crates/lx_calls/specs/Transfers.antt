@@ -27,7 +27,6 @@ use Rattle.lx_machine.specs.declared.files.FileKind.{FileKind}
 use Rattle.lx_machine.specs.declared.files.FileKind.TheVariants as kind
 use Rattle.lx_machine.specs.declared.label.LxSide.{LxSide}
 use Rattle.lx_machine.specs.declared.label.LxSide.TheVariants as side
-use Rattle.lx_machine.specs.declared.label.Pick.{Pick}
 use Rattle.lx_machine.specs.declared.signals.SigInfo.{SigInfo}
 use Rattle.lx_machine.specs.declared.signals.Origin.TheVariants.{Sender}
 use Rattle.lx_machine.specs.declared.refusal.LxRefusal.{LxRefusal}

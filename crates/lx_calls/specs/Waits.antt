@@ -1,6 +1,6 @@
 -- How waits begin and end: Clock, Move, Expire and Interrupt, and which calls start again after a signal. Source: signal(7),
 -- futex(2), nanosleep(2), epoll_wait(2), sigsuspend(2).
-use Rattle.std.specs.Prelude.{ℕ, Bool, true, false, ◌&&◌, if◌then◌else◌, List, [], ◌∷◌, Option, Some, None}
+use Rattle.std.specs.Prelude.{ℕ, Bool, false, ◌&&◌, if◌then◌else◌, List, [], ◌∷◌, Option, Some, None}
 use Rattle.std.specs.Option.{option_map}
 use Rattle.std.proofs.Math.Bool.{not}
 use Rattle.linux_abi.specs.Call.{call_of}

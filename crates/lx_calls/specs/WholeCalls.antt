@@ -6,12 +6,10 @@ use Rattle.linux_abi.specs.Call.{call_of}
 use Rattle.linux_abi.specs.declared.calls.Call.{Call}
 use Rattle.linux_abi.specs.declared.calls.Call.TheVariants as call
 use Rattle.linux_abi.specs.declared.signals.LinuxSig.{LinuxSig}
-use Rattle.lx_machine.specs.Lists.{bind, at_place}
+use Rattle.lx_machine.specs.Lists.{at_place}
 use Rattle.lx_machine.specs.Signals.{without_all}
 use Rattle.lx_machine.specs.Threads.{with_thread, with_call}
 use Rattle.lx_machine.specs.declared.calls.LxCall.{LxCall}
-use Rattle.lx_machine.specs.declared.calls.Stage.{Stage}
-use Rattle.lx_machine.specs.declared.calls.Stage.TheVariants as stage
 use Rattle.lx_machine.specs.declared.state.LinuxState.{LinuxState}
 use Rattle.lx_machine.specs.declared.threads.LxThread.{LxThread}
 use Rattle.lx_clones.specs.Clones.{Cloned, cloned, get_robust_list}

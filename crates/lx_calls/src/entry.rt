@@ -9,19 +9,21 @@ use crate::vectors::clip;
 use linux_abi::files::IOV_MAX;
 use linux_abi::memory::{Advice, MAP_ANONYMOUS, MAP_FIXED, MAP_PRIVATE, MAP_SHARED, PROT_EXEC};
 use linux_abi::{Call, LinuxErrno};
+use lx_clones::clones::{clone_refusal, set_robust_list_refusal};
 use lx_epolls::epoll_calls::{
-    epoll_create_refusal, epoll_ctl_pieces, epoll_ctl_refusal, epoll_pwait_pieces, epoll_pwait_refusal,
+    epoll_create_refusal, epoll_ctl_pieces, epoll_ctl_refusal, epoll_pwait_pieces,
+    epoll_pwait_refusal,
 };
 use lx_machine::buffer::{NoMemory, ROOM};
 use lx_machine::calls::{LxCall, Piece, Pieces, has_other, refused_if};
 use lx_signals::actions::{sigaction_pieces, sigaction_refusal};
 use lx_signals::masks::{
-    sigpending_refusal, sigprocmask_pieces, sigprocmask_refusal, sigsuspend_pieces, sigsuspend_refusal,
+    sigpending_refusal, sigprocmask_pieces, sigprocmask_refusal, sigsuspend_pieces,
+    sigsuspend_refusal,
 };
 use lx_signals::sending::{kill_refusal, tgkill_refusal, tkill_refusal};
 use lx_signals::sigreturn::sigreturn_pieces;
 use lx_signals::stacks::sigaltstack_pieces;
-use lx_clones::clones::{clone_refusal, set_robust_list_refusal};
 use lx_threads::futexes::{futex_pieces, futex_refusal};
 use lx_threads::time::{clock_gettime_refusal, nanosleep_pieces};
 use std::alloc::Global;

@@ -6,6 +6,7 @@ ghost use Rattle.lx_calls.specs.Vectors.{vectors};
 
 use crate::vectors::{clip, has_negative, read_vectors};
 use linux_abi::{Call, LinuxErrno};
+use lx_clones::clones::{birth_stage, clone_not_stored, clone_stage};
 use lx_epolls::epoll_calls::{epoll_ctl_stage, epoll_pwait_stage};
 use lx_machine::buffer::{NoMemory, ROOM};
 use lx_machine::calls::{LxCall, Piece, Stage};
@@ -13,7 +14,6 @@ use lx_signals::actions::sigaction_stage;
 use lx_signals::masks::{blockable, fetched_mask, sigprocmask_stage, sigsuspend_stage};
 use lx_signals::sigreturn::sigreturn_stage;
 use lx_signals::stacks::sigaltstack_stage;
-use lx_clones::clones::{birth_stage, clone_not_stored, clone_stage};
 use lx_threads::deaths::{death_fetched, death_not_fetched, death_stage, death_stored};
 use lx_threads::futexes::{futex_fetched, futex_stage};
 use lx_threads::time::{clock_gettime_stage, nanosleep_stage, timeout_fetched};

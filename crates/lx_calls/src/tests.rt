@@ -40,7 +40,7 @@ fn started(
     len: u64,
 ) -> Result<LxCall, Fail> {
     let mut call = LxCall::new(alloc, number, [fd, 0x3000, len, 0, 0, 0]);
-    enter(alloc, &mut call)?;
+    enter(alloc, 0, &mut call)?;
     hold(files, &mut call)?;
     Ok(call)
 }
@@ -50,11 +50,11 @@ fn bytes_go_through_a_pipe(rt: HostRuntime) -> Result<(), Fail> {
     let alloc = rt.alloc();
     let mut files = no_files(alloc, b"")?;
     let mut made = LxCall::new(alloc, 59, [0x2000, 0, 0, 0, 0, 0]);
-    enter(alloc, &mut made)?;
+    enter(alloc, 0, &mut made)?;
     pipe2(alloc, &mut files, &mut made)?;
     assert_eq!(rt; made.result, Some(0));
     assert_eq!(rt; made.bytes.as_slice(), [0, 0, 0, 0, 1, 0, 0, 0].as_slice());
-    assert_eq!(rt; stage_of(&made), Stage::Store(Piece { at: 0x2000, len: 8 }));
+    assert!(rt; matches!(stage_of(&made), Stage::Store(p) if p == Piece { at: 0x2000, len: 8 }));
 
     let mut write = started(alloc, &mut files, 64, 1, 3)?;
     write.bytes.append(b"abc")?;
@@ -62,11 +62,11 @@ fn bytes_go_through_a_pipe(rt: HostRuntime) -> Result<(), Fail> {
     assert_eq!(rt; write.result, Some(3));
 
     let mut read = started(alloc, &mut files, 63, 0, 10)?;
-    assert_eq!(rt; stage_of(&read), Stage::Move);
+    assert!(rt; matches!(stage_of(&read), Stage::Move));
     assert_eq!(rt; move_bytes(alloc, &mut files, &mut read)?, false);
     assert_eq!(rt; read.result, Some(3));
     assert_eq!(rt; read.bytes.as_slice(), b"abc".as_slice());
-    assert_eq!(rt; stage_of(&read), Stage::Store(Piece { at: 0x3000, len: 3 }));
+    assert!(rt; matches!(stage_of(&read), Stage::Store(p) if p == Piece { at: 0x3000, len: 3 }));
     Ok(())
 }
 
@@ -84,13 +84,7 @@ fn vectors_are_read(rt: HostRuntime) -> Result<(), Fail> {
         close_on_exec: false,
     });
     let mut read = started(alloc, &mut files, 65, 0, 2)?;
-    assert_eq!(rt;
-        stage_of(&read),
-        Stage::Fetch(Piece {
-            at: 0x3000,
-            len: 32
-        })
-    );
+    assert!(rt; matches!(stage_of(&read), Stage::Fetch(p) if p == Piece { at: 0x3000, len: 32 }));
     read.fetched = 1;
     read.pieces.clear();
     read.bytes
@@ -98,10 +92,10 @@ fn vectors_are_read(rt: HostRuntime) -> Result<(), Fail> {
     read.bytes
         .append(&[0, 0x60, 0, 0, 0, 0, 0, 0, 3, 0, 0, 0, 0, 0, 0, 0])?;
     after_fetch(alloc, &mut read)?;
-    assert_eq!(rt; stage_of(&read), Stage::Move);
+    assert!(rt; matches!(stage_of(&read), Stage::Move));
     assert_eq!(rt; move_bytes(alloc, &mut files, &mut read)?, false);
     assert_eq!(rt; read.bytes.as_slice(), b"inpu".as_slice());
-    assert_eq!(rt; stage_of(&read), Stage::Store(Piece { at: 0x5000, len: 1 }));
+    assert!(rt; matches!(stage_of(&read), Stage::Store(p) if p == Piece { at: 0x5000, len: 1 }));
     Ok(())
 }
 

@@ -1,5 +1,5 @@
 -- Gone and Kill by what comes next of a call; Effect of a call of all threads or of its own thread.
-use Rattle.std.proofs.Common.{◌≡◌, ℕ, List, Option, Some, None, refl, subst, sym, true, false}
+use Rattle.std.proofs.Common.{◌≡◌, ℕ, Option, Some, None, refl, subst, sym, true, false}
 use Rattle.std.specs.Prelude.{slice_get, if◌then◌else◌}
 use Rattle.std.specs.Option.{option_or}
 use Rattle.linux_abi.specs.declared.signals.LinuxSig.TheVariants as signal
@@ -87,7 +87,7 @@ kill_staged stage.Return L s t c = refl
 
 kill_in : (L : LinuxState) (s : ℕ) (t : LxThread) (o : Option LxCall) → t.call ≡ o
     → bind o (λ c. machine.kill_in_call effects (stage_of c) L s (without_call t) c) ≡
-      (if is_killed_in o then Some (with_thread (ended_by (Some signal.SIGSEGV) L) s t) else None)
+    (if is_killed_in o then Some (with_thread (ended_by (Some signal.SIGSEGV) L) s t) else None)
 kill_in L s t None is = refl
 kill_in L s t (Some c) is =
     subst (λ (u : LxThread). machine.kill_in_call effects (stage_of c) L s (without_call t) c ≡ (if is_kill_stage (stage_of c) then Some (with_thread (ended_by (Some signal.SIGSEGV) L) s u) else None))
@@ -95,8 +95,8 @@ kill_in L s t (Some c) is =
 
 pub killed : (L : LinuxState) (s : ℕ) (t : LxThread)
     → machine.kill_of effects L s t ≡
-      (if t.is_doomed then Some (with_thread (ended_by (Some signal.SIGSEGV) L) s t)
-       else (if is_killed t then Some (with_thread (ended_by (Some signal.SIGSEGV) L) s t) else None))
+    (if t.is_doomed then Some (with_thread (ended_by (Some signal.SIGSEGV) L) s t)
+    else (if is_killed t then Some (with_thread (ended_by (Some signal.SIGSEGV) L) s t) else None))
 killed L s t = rw (kill_in L s t t.call refl) refl
 
 -- ---- Effect
@@ -125,19 +125,19 @@ effect_staged stage.Return L s t c = refl
 
 effect_in : (L : LinuxState) (s : ℕ) (t : LxThread) (o : Option LxCall)
     → bind o (λ c. machine.effect effects false (stage_of c) L s t c) ≡
-      option_or (bind o (λ c. whole_effect_at (stage_of c) L s t c)) (bind o (λ c. own_effect_at false (stage_of c) L s t c))
+    option_or (bind o (λ c. whole_effect_at (stage_of c) L s t c)) (bind o (λ c. own_effect_at false (stage_of c) L s t c))
 effect_in L s t None = refl
 effect_in L s t (Some c) = effect_staged (stage_of c) L s t c
 
 effect_at : (L : LinuxState) (s : ℕ) (p : Option LxThread)
     → bind p (λ t. of_call stage_of (machine.effect effects false) L s t) ≡
-      option_or (bind p (λ t. of_call stage_of whole_effect_at L s t)) (bind p (λ t. of_call stage_of (own_effect_at false) L s t))
+    option_or (bind p (λ t. of_call stage_of whole_effect_at L s t)) (bind p (λ t. of_call stage_of (own_effect_at false) L s t))
 effect_at L s None = refl
 effect_at L s (Some t) = effect_in L s (without_call t) t.call
 
 pub has_effect : (L : LinuxState) (s : ℕ)
     → in_call stage_of L s (machine.effect effects false) ≡
-      option_or (in_call stage_of L s whole_effect_at) (in_call stage_of L s (own_effect_at false))
+    option_or (in_call stage_of L s whole_effect_at) (in_call stage_of L s (own_effect_at false))
 has_effect L s = effect_at (without_thread L s) s (at_place L.threads s)
 
 short_staged : (st : Stage) (L : LinuxState) (s : ℕ) (t : LxThread) (c : LxCall)

@@ -5,7 +5,7 @@ use Rattle.std.specs.Option.{option_map}
 use Rattle.linux_abi.specs.Call.{call_of}
 use Rattle.lx_machine.specs.Lists.{bind, at_place}
 use Rattle.lx_machine.specs.Step.{in_call}
-use Rattle.lx_machine.specs.Threads.{without_thread, with_call, without_call}
+use Rattle.lx_machine.specs.Threads.{without_thread, without_call}
 use Rattle.lx_machine.specs.declared.calls.LxCall.{LxCall}
 use Rattle.lx_machine.specs.declared.calls.Stage.{Stage}
 use Rattle.lx_machine.specs.declared.calls.Stage.TheVariants as stage
@@ -13,7 +13,9 @@ use Rattle.lx_machine.specs.declared.state.LinuxState.{LinuxState}
 use Rattle.lx_machine.specs.declared.threads.LxThread.{LxThread}
 use Rattle.lx_calls.specs.Shape.{stage_of}
 use Rattle.lx_calls.specs.WholeCalls.{Whole, whole, whole_by, put_whole, call_put}
-use Rattle.lx_run.specs.CallSteps.{WholeGoes, whole_at, whole_effect_at, taken_at, taken_of, taken_from, call_out}
+use Rattle.lx_run.specs.CallSteps.{whole_effect_at}
+use Rattle.lx_run.specs.Outcomes.{WholeGoes}
+use Rattle.lx_run.specs.Wholes.{whole_at, taken_at, taken_of, taken_from, call_out}
 use Rattle.lx_machine.specs.declared.refusal.LxRefusal.{LxRefusal}
 use Rattle.lx_machine.specs.declared.refusal.LxRefusal.TheVariants.{NoStep, NoMemory}
 use Rattle.lx_run.specs.Steps.{Steps}
@@ -28,7 +30,7 @@ set_twice (x ∷ xs) (suc i) a b = let rest : slice_set (slice_set xs i a) i b �
 -- the step of the definition is that of the state with the caller in no call, and the call is then put back
 staged : (st : Stage) (L : LinuxState) (threads : List (Option LxThread)) (s : ℕ) (t : LxThread) (c : LxCall)
     → whole_effect_at st (record L { threads = slice_set threads s None }) s (without_call t) c ≡
-      option_map (put_whole s) (whole_at st (record L { threads = slice_set threads s (Some (without_call t)) }) t.mask t.robust_head c)
+    option_map (put_whole s) (whole_at st (record L { threads = slice_set threads s (Some (without_call t)) }) t.mask t.robust_head c)
 staged stage.Effect L threads s t c =
     ap (λ (places : List (Option LxThread)). option_map (put_whole s) (whole_by (record L { threads = places }) t.mask t.robust_head c (call_of c.number)))
     (set_twice threads s None (Some (without_call t)))
@@ -183,4 +185,4 @@ pub ends : (L L1 L2 : LinuxState) (s : ℕ) (k : Taken) (c2 : LxCall) (threads2 
 ends L L1 L2 s k c2 threads2 result is out_is goes put =
     subst (λ (threads : List (Option LxThread)). Steps (in_call stage_of L s whole_effect_at) L (record L2 { threads = threads }) result) (sym put)
     (ended L L2 s k c2 result is
-     (subst (λ (M : LinuxState). WholeGoes (whole_at (stage_of k.call) M k.mask k.robust_head k.call) M L2 k.call c2 result) out_is goes))
+    (subst (λ (M : LinuxState). WholeGoes (whole_at (stage_of k.call) M k.mask k.robust_head k.call) M L2 k.call c2 result) out_is goes))

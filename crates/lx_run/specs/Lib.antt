@@ -1,4 +1,6 @@
 pub mod Accesses
 pub mod CallSteps
+pub mod Outcomes
 pub mod Places
 pub mod Steps
+pub mod Wholes

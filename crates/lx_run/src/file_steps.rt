@@ -6,7 +6,7 @@ ghost use Rattle.linux_abi.specs.declared.signals.LinuxSig.TheVariants as signal
 ghost use Rattle.lx_calls.specs.Table.{effects, file_effect};
 ghost use Rattle.lx_calls.specs.Transfers.{has_room_for_broken_pipe, with_broken_pipe};
 ghost use Rattle.lx_calls.specs.Waits.{move};
-ghost use Rattle.lx_run.specs.CallSteps.{CallGoes, move_of_transfer};
+ghost use Rattle.lx_run.specs.Outcomes.{CallGoes, move_of_transfer};
 
 use linux_abi::{Call, LinuxSig};
 use lx_calls::transfers;

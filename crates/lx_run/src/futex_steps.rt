@@ -6,7 +6,7 @@ ghost use Rattle.lx_calls.specs.Lives.{mark};
 ghost use Rattle.linux_abi.specs.Call.{call_of};
 ghost use Rattle.lx_threads.specs.Futexes.{outcome, woken};
 ghost use Rattle.lx_calls.specs.Table.{effects};
-ghost use Rattle.lx_run.specs.CallSteps.{CallGoes};
+ghost use Rattle.lx_run.specs.Outcomes.{CallGoes};
 
 use crate::threads::unmark;
 use linux_abi::Call;
@@ -140,7 +140,12 @@ fn mark_word(
     let fault = mark_faults(&state.space.pages, thread.tid, &state.queue, asked);
     death_marked(alloc, fault, call)?;
     let done = marked(&mut state.space.pages, thread.tid, &mut state.queue, asked);
-    unmark(state, slot, u128::from(done.written.at), u128::from(done.written.len));
+    unmark(
+        state,
+        slot,
+        u128::from(done.written.at),
+        u128::from(done.written.len),
+    );
     Ok(())
 }
 

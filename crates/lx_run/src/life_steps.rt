@@ -5,13 +5,13 @@ ghost use Rattle.lx_calls.specs.ProcessCalls.{all_free, ended_by};
 ghost use Rattle.lx_calls.specs.Table.{effects};
 ghost use Rattle.lx_machine.specs.Step as machine;
 ghost use Rattle.lx_machine.specs.Lists.{at_place};
-ghost use Rattle.lx_run.specs.CallSteps.{CallGoes, StartsAt, Starts};
+ghost use Rattle.lx_run.specs.Outcomes.{CallGoes, StartsAt, Starts};
 
+use lx_clones::clones::started;
 use lx_machine::calls::{LxCall, Stage};
 use lx_machine::refusal::LxRefusal;
 use lx_machine::state::{LinuxState, THREADS};
 use lx_machine::threads::{GuestEnd, Life, LxThread};
-use lx_clones::clones::started;
 use lx_threads::deaths::begun;
 use std::alloc::Global;
 

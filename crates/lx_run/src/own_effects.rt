@@ -4,7 +4,8 @@ ghost use Rattle.std.specs.Option.{option_or};
 ghost use Rattle.lx_machine.specs.Threads.{after_write};
 ghost use Rattle.lx_calls.specs.ProcessCalls.{own_id};
 ghost use Rattle.lx_calls.specs.Table.{memory_effect, thread_effect, effect_of, short_effect};
-ghost use Rattle.lx_run.specs.CallSteps.{CallGoes, own_effect_at};
+ghost use Rattle.lx_run.specs.CallSteps.{own_effect_at};
+ghost use Rattle.lx_run.specs.Outcomes.{CallGoes};
 
 use crate::file_steps;
 use crate::life_steps::end_guest;
@@ -12,6 +13,7 @@ use crate::threads::unmark;
 use linux_abi::Call;
 use lx_calls::memory_calls::{PageRange, brk, madvise, mmap, mprotect, munmap, run_short};
 use lx_calls::process_calls::uname;
+use lx_clones::clones::set_robust_list;
 use lx_machine::calls::{LxCall, Stage};
 use lx_machine::refusal::LxRefusal;
 use lx_machine::state::LinuxState;
@@ -19,7 +21,6 @@ use lx_machine::threads::LxThread;
 use lx_signals::masks::{sigpending, sigprocmask};
 use lx_signals::sigreturn::sigreturn;
 use lx_signals::stacks::sigaltstack;
-use lx_clones::clones::set_robust_list;
 use std::alloc::Global;
 
 /// The process and its user and group ids.
@@ -96,7 +97,13 @@ fn thread_effect(
         Call::SetRobustList => set_robust_list(thread, call),
         Call::Sigaltstack => sigaltstack(alloc, thread.regs.sp, &mut thread.alt_stack, call)?,
         Call::RtSigprocmask => sigprocmask(alloc, &mut thread.mask, call)?,
-        Call::RtSigpending => sigpending(alloc, thread.mask, &thread.pending, &state.pending, call)?,
+        Call::RtSigpending => sigpending(
+            alloc,
+            thread.mask,
+            &thread.pending,
+            &state.pending,
+            call,
+        )?,
         Call::RtSigreturn => sigreturn(&mut thread.regs, &mut thread.mask, call),
         _ => return Err(LxRefusal::NoStep),
     }

@@ -7,7 +7,7 @@ ghost use Rattle.lx_machine.specs.Step as machine;
 ghost use Rattle.lx_machine.specs.Step.{with_fetched};
 ghost use Rattle.lx_calls.specs.Shape.{fetched, mask_of};
 ghost use Rattle.lx_calls.specs.Table.{effects};
-ghost use Rattle.lx_run.specs.CallSteps.{CallGoes};
+ghost use Rattle.lx_run.specs.Outcomes.{CallGoes};
 
 use crate::threads::unmark;
 use linux_abi::Call;

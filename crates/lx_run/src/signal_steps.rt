@@ -5,7 +5,8 @@ ghost use Rattle.lx_calls.specs.Table.{effects};
 ghost use Rattle.lx_calls.specs.Waits.{restarts};
 ghost use Rattle.lx_machine.specs.Step as machine;
 ghost use Rattle.lx_machine.specs.Threads.{with_thread};
-ghost use Rattle.lx_run.specs.CallSteps.{is_killed, ThreadGoes};
+ghost use Rattle.lx_run.specs.CallSteps.{is_killed};
+ghost use Rattle.lx_run.specs.Outcomes.{ThreadGoes};
 ghost use Rattle.lx_run.specs.Steps.{IsDecided};
 
 use crate::threads::unmark;

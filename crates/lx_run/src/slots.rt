@@ -6,7 +6,8 @@ ghost use Rattle.lx_machine.specs.Step as machine;
 ghost use Rattle.lx_machine.specs.Step.{on_thread, in_call, of_call};
 ghost use Rattle.lx_calls.specs.Table.{effects};
 ghost use Rattle.lx_calls.specs.Shape.{stage_of};
-ghost use Rattle.lx_run.specs.CallSteps.{call_step, thread_step, is_gone, after_gone, CallGoes, ThreadGoes};
+ghost use Rattle.lx_run.specs.CallSteps.{call_step, thread_step, is_gone, after_gone};
+ghost use Rattle.lx_run.specs.Outcomes.{CallGoes, ThreadGoes};
 ghost use Rattle.lx_run.specs.Steps.{Steps, IsDecided};
 
 use crate::life_steps::{all_free, end_guest};

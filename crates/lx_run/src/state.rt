@@ -31,12 +31,7 @@ pub struct LxState {
 
 /// Effect of the call of the thread in a slot: of one that looks at all threads or changes others, or of any other.
 #[tactic(auto, using(crate::proofs::Staged::has_effect))]
-fn effect(
-    state: &mut LinuxState,
-    alloc: Global,
-    slot: u8,
-    label: &Label,
-) -> Result<(), LxRefusal>
+fn effect(state: &mut LinuxState, alloc: Global, slot: u8, label: &Label) -> Result<(), LxRefusal>
     requires { label.now ≡ label_of.Effect slot false }
     ensures { Steps (in_call stage_of state.old slot (machine.effect effects false)) state.old state.new result }
 {
@@ -121,9 +116,8 @@ fn step_on(state: &mut LinuxState, alloc: Global, label: &Label) -> Result<(), L
         | Label::Start(slot)
         | Label::Leave(slot) => slots::in_call(state, alloc, *slot, label),
         Label::Gone(slot) => slots::gone(state, *slot),
-        Label::Return(slot, _) | Label::Take(slot, _, _) | Label::Frame(slot) | Label::Kill(slot) => {
-            slots::on_thread(state, *slot, label)
-        }
+        Label::Return(slot, _) | Label::Take(slot, _, _) | Label::Frame(slot) | Label::Kill(slot) =>
+            { slots::on_thread(state, *slot, label) }
         Label::Time(time) => set_clock(state, *time),
         Label::Drain(side, n) => drain(state, *side, *n),
     }

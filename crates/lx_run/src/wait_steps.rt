@@ -6,7 +6,7 @@ ghost use Rattle.lx_calls.specs.Table.{effects};
 ghost use Rattle.lx_calls.specs.Waits as spec;
 ghost use Rattle.lx_machine.specs.Step as machine;
 ghost use Rattle.lx_machine.specs.declared.refusal.LxRefusal.TheVariants.{NoStep};
-ghost use Rattle.lx_run.specs.CallSteps.{CallGoes, GivesUp};
+ghost use Rattle.lx_run.specs.Outcomes.{CallGoes, GivesUp};
 
 use linux_abi::{Call, LinuxErrno, LinuxSig};
 use lx_calls::readiness::can_move as transfer_can_move;

@@ -7,11 +7,14 @@ ghost use Rattle.lx_calls.specs.WholeCalls.{call_put};
 ghost use Rattle.lx_machine.specs.Lists.{bind};
 ghost use Rattle.lx_machine.specs.Step.{in_call};
 ghost use Rattle.lx_machine.specs.Threads.{with_call, without_call};
-ghost use Rattle.lx_run.specs.CallSteps.{WholeGoes, whole_effect_at, whole_at, taken_of, taken_at, call_out};
+ghost use Rattle.lx_run.specs.CallSteps.{whole_effect_at};
+ghost use Rattle.lx_run.specs.Outcomes.{WholeGoes};
+ghost use Rattle.lx_run.specs.Wholes.{whole_at, taken_of, taken_at, call_out};
 ghost use Rattle.lx_run.specs.Steps.{Steps};
 
 use linux_abi::{Call, LinuxSig};
 use lx_calls::shape::stage_of;
+use lx_clones::clones::{cloned, get_robust_list};
 use lx_machine::calls::{LxCall, Stage};
 use lx_machine::refusal::LxRefusal;
 use lx_machine::state::{LinuxState, THREADS};
@@ -20,7 +23,6 @@ use lx_signals::actions::sigaction;
 use lx_signals::sending::{
     Sending, answer_by, forget, kill_sending, perform, queued, tgkill_sending, tkill_sending,
 };
-use lx_clones::clones::{cloned, get_robust_list};
 use std::alloc::Global;
 use std::mem;
 
@@ -28,7 +30,12 @@ use std::mem;
 fn send(state: &mut LinuxState, call: &mut LxCall, sending: Sending) -> Result<(), LxRefusal>
     ensures { WholeGoes (Some (spec.send state.old call.old sending)) state.old state.new call.old call.new result }
 {
-    perform(sending, &state.actions, &mut state.threads, &mut state.pending)?;
+    perform(
+        sending,
+        &state.actions,
+        &mut state.threads,
+        &mut state.pending,
+    )?;
     answer_by(sending, call);
     Ok(())
 }
@@ -155,7 +162,14 @@ fn effect_at(state: &mut LinuxState, alloc: Global, taken: &mut Taken) -> Result
         return Err(LxRefusal::NoStep);
     };
     let kind = Call::new(taken.call.number);
-    effect_as(state, alloc, taken.mask, taken.robust_head, &mut taken.call, kind)
+    effect_as(
+        state,
+        alloc,
+        taken.mask,
+        taken.robust_head,
+        &mut taken.call,
+        kind,
+    )
 }
 
 /// Effect of a call of the thread in a slot that looks at all threads, or changes others.

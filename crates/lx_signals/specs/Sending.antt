@@ -1,6 +1,6 @@
 -- Signals that are sent: kill, tkill and tgkill, on the threads, the pending signals of the process, the actions and the call.
 -- Source: signal(7), kill(2), tkill(2), sigqueue(3). That there are at most 64 queued real-time signals is this project's own.
-use Rattle.std.specs.Prelude.{ℕ, ◌+◌, ◌-◌, ◌^◌, ◌==◌, Bool, true, false, ◌&&◌, ◌||◌, nat_le, nat_lt, if◌then◌else◌, List, [], ◌∷◌, ◌++◌, Option, Some, None, ℤ, pos, negsuc}
+use Rattle.std.specs.Prelude.{ℕ, ◌+◌, ◌-◌, ◌^◌, ◌==◌, Bool, false, ◌&&◌, ◌||◌, nat_le, nat_lt, if◌then◌else◌, List, [], ◌∷◌, ◌++◌, Option, Some, None, ℤ, pos, negsuc}
 use Rattle.std.specs.List.{list_any}
 use Rattle.std.proofs.Math.Bool.{not}
 use Rattle.linux_abi.specs.LinuxSig.{linux_signal_of, is_real_time}

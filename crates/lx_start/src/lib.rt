@@ -4,3 +4,5 @@
 
 pub mod stack;
 pub mod start;
+#[cfg(test)]
+mod tests;

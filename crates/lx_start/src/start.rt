@@ -17,9 +17,9 @@ use lx_machine::files::{
     OpenFile, PIPES,
 };
 use lx_machine::label::LxSide;
+use lx_machine::queue::Queue;
 use lx_machine::signals::{Action, Pending};
 use lx_machine::space::Space;
-use lx_machine::queue::Queue;
 use lx_machine::state::{LinuxState, THREADS};
 use lx_machine::threads::{AltStack, Life, LxThread};
 use lx_memory::Memory;
