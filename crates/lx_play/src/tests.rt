@@ -350,7 +350,13 @@ fn run(alloc: Global, code: &[u32]) -> Result<(u8, Vec<u8>), Fail> {
     let mut machine = start(alloc, code)?;
     let mut out = MemSink::make(Vec::new(alloc), 100_000, Vec::new(alloc));
     let mut err = MemSink::make(Vec::new(alloc), 7, Vec::new(alloc));
-    let end = play(&mut machine, alloc, &mut Schedule::rounds(), &mut out, &mut err);
+    let end = play(
+        &mut machine,
+        alloc,
+        &mut Schedule::rounds(),
+        &mut out,
+        &mut err,
+    );
     Ok((verdict_of(end).status, out.taken().to_vec(alloc)?))
 }
 

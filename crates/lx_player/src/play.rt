@@ -130,11 +130,7 @@ fn turn_from(machine: &mut Machine, alloc: Global, first: u8, most: u64) -> Resu
 }
 
 // The next turn. It answers how many steps it had, which is none where no thread has a step.
-fn next_turn(
-    machine: &mut Machine,
-    alloc: Global,
-    schedule: &mut Schedule,
-) -> Result<u64, NoMemory>
+fn next_turn(machine: &mut Machine, alloc: Global, schedule: &mut Schedule) -> Result<u64, NoMemory>
     ensures { Reaches machine.old.state.state machine.new.state.state }
 {
     let place = schedule.pick(count_threads(machine).max(1));
