@@ -1,23 +1,21 @@
 //! The program `lx_play`: it runs a guest in the Linux machine alone, without a FreeBSD kernel below it.
 //!
-//! `lx_play IMAGE [ARG ..]` reads standard input whole, and then gives each thread of the guest its turns. It ends with the
-//! code of the guest, with 128 and the number of the signal that ended it, or else with a message and one of the statuses
-//! below.
+//! `lx_play [--seed N] IMAGE [ARG ..]` reads standard input whole, and then gives each thread of the guest its turns: in rounds,
+//! or with a seed in an order and for lengths that the seed decides. It ends with the code of the guest, with 128 and the number
+//! of the signal that ended it, or else with a message and one of the statuses below.
 #![tactic(auto)]
 
 ghost use Rattle.std.specs.Prelude.{IfOk};
 ghost use Rattle.elf_image.specs.Layout.{IsLaidOut};
 
-mod machine;
-mod play;
 #[cfg(test)]
 mod tests;
-mod turns;
 
-use crate::machine::Machine;
-use crate::play::{RunEnd, play};
 use elf_image::{Image, read_image};
 use lx_machine::threads::GuestEnd;
+use lx_player::machine::Machine;
+use lx_player::play::{RunEnd, play};
+use lx_player::schedule::Schedule;
 use outside::{DirShelf, Shelf, Sink, StdSink, put_all};
 use std::alloc::Global;
 use std::env;
@@ -44,6 +42,8 @@ const NO_IMAGE: u8 = 126;
 const NO_INPUT: u8 = 121;
 
 const NO_WORDS: u8 = 2;
+
+const USAGE: &str = "usage: lx_play [--seed N] IMAGE [ARG ..]\n";
 
 // The status, and the message that tells of it.
 #[derive(Clone, Copy)]
@@ -97,6 +97,17 @@ fn verdict_of(end: RunEnd) -> Verdict {
     }
 }
 
+// The schedule that the words ask for, and the words behind it.
+fn scheduled(words: &[String]) -> Result<(Schedule, &[String]), Verdict> {
+    match words {
+        [option, seed, rest @ ..] if option.as_str() == "--seed" => match seed.parse::<u64>() {
+            Ok(seed) => Ok((Schedule::seeded(seed), rest)),
+            Err(_) => Err(told(NO_WORDS, USAGE)),
+        },
+        _ => Ok((Schedule::rounds(), words)),
+    }
+}
+
 // Runs the guest that the words name.
 fn run_guest<O: Sink, E: Sink>(
     rt: &HostRuntime,
@@ -105,15 +116,16 @@ fn run_guest<O: Sink, E: Sink>(
     err: &mut E,
 ) -> Result<RunEnd, Verdict> {
     let alloc = rt.alloc();
+    let (mut schedule, words) = scheduled(words)?;
     let Some(name) = words.first() else {
-        return Err(told(NO_WORDS, "usage: lx_play IMAGE [ARG ..]\n"));
+        return Err(told(NO_WORDS, USAGE));
     };
     let image = load_image(alloc, &mut DirShelf::make(rt), name)?;
     let Ok(input) = read_input(rt) else {
         return Err(told(NO_INPUT, "lx_play: standard input can't be read\n"));
     };
     match Machine::start(alloc, &image, words, input) {
-        Ok(mut machine) => Ok(play(&mut machine, alloc, out, err)),
+        Ok(mut machine) => Ok(play(&mut machine, alloc, &mut schedule, out, err)),
         Err(_) => Ok(RunEnd::NoMemory),
     }
 }

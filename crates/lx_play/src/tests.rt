@@ -2,8 +2,8 @@
 // above. Where a run compares answers, x19 counts those that differ, and is the status: `is n` stands for
 // mov x9, n; cmp x0, x9; cinc x19, x19, ne.
 use super::*;
-use crate::turns::step_of;
 use code_image::image_of;
+use lx_player::turns::step_of;
 use outside::MemSink;
 use std::alloc::AllocError;
 use std::test::Fail;
@@ -350,7 +350,13 @@ fn run(alloc: Global, code: &[u32]) -> Result<(u8, Vec<u8>), Fail> {
     let mut machine = start(alloc, code)?;
     let mut out = MemSink::make(Vec::new(alloc), 100_000, Vec::new(alloc));
     let mut err = MemSink::make(Vec::new(alloc), 7, Vec::new(alloc));
-    let end = play(&mut machine, alloc, &mut out, &mut err);
+    let end = play(
+        &mut machine,
+        alloc,
+        &mut Schedule::rounds(),
+        &mut out,
+        &mut err,
+    );
     Ok((verdict_of(end).status, out.taken().to_vec(alloc)?))
 }
 
@@ -375,11 +381,21 @@ fn count_steps(alloc: Global, code: &[u32]) -> Result<u64, Fail> {
     Err("too many steps".into())
 }
 
+// The result of the call with this number, in the form of x0, where the first thread is in it and it has one.
+fn result_in(machine: &Machine, number: u64) -> Option<u64> {
+    let call = machine.thread(0)?.call.as_ref()?;
+    if call.number == number {
+        call.result
+    } else {
+        None
+    }
+}
+
 // The result of the call with this number, in the form of x0, once it is about to return for the first time.
 fn result_of(alloc: Global, code: &[u32], number: u64) -> Result<u64, Fail> {
     let mut machine = start(alloc, code)?;
     for _ in 0..MANY {
-        if let Some(result) = machine.result(0, number) {
+        if let Some(result) = result_in(&machine, number) {
             return Ok(result);
         }
         step_of(&mut machine, alloc, 0).map_err(|_| "no memory")?;

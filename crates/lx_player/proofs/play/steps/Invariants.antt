@@ -1,5 +1,5 @@
-use Rattle.lx_play.specs.Play.{Reaches}
-use Rattle.lx_play.proofs.play.turn.Given as goal
+use Rattle.lx_player.specs.Play.{Reaches}
+use Rattle.lx_player.proofs.play.steps.Given as goal
 
 -- what has been done so far is a run
 abbrev pub invariant-loop-taken : goal.invariant-loop-taken

@@ -4,7 +4,7 @@ use Rattle.lx_machine.specs.Lists.{bind}
 use Rattle.lx_machine.specs.declared.label.Label.{Label}
 use Rattle.lx_machine.specs.declared.state.LinuxState.{LinuxState}
 use Rattle.lx_calls.specs.Table.{step, run}
-use Rattle.lx_play.specs.Play.{Reaches}
+use Rattle.lx_player.specs.Play.{Reaches}
 
 pub here : (L : LinuxState) → Reaches L L
 here L = record { labels = []; goes = refl }

@@ -3,7 +3,7 @@ use Rattle.std.specs.Prelude.{◌≡◌, ℕ, Bool, true, false, List, length, d
 use Rattle.std.specs.Option.{option_map}
 use Rattle.linux_abi.specs.declared.signals.LinuxSig.{LinuxSig}
 use Rattle.lx_machine.specs.Lists.{bind, at_place}
-use Rattle.lx_machine.specs.Step.{room_of}
+use Rattle.lx_machine.specs.Interests.{side_holds}
 use Rattle.lx_machine.specs.declared.buffer.NoMemory.{NoMemory}
 use Rattle.lx_machine.specs.declared.calls.Stage.{Stage}
 use Rattle.lx_machine.specs.declared.label.Label.{Label}
@@ -28,7 +28,7 @@ ever_put L side.Err = L.files.put_err
 
 -- the last of them, as many as the room holds
 abbrev pub last_put : LinuxState → LxSide → List ℕ
-last_put L which = drop (length (ever_put L which) - length (room_of L which)) (ever_put L which)
+last_put L which = drop (length (ever_put L which) - length (side_holds L.files which)) (ever_put L which)
 
 -- true exactly where there is a next state, which it then is; false exactly where there is none, and then the state is as
 -- it was. Want of memory alone is free, and leaves the state as it was

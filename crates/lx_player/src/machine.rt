@@ -2,11 +2,11 @@
 ghost use Rattle.std.specs.Prelude.{◌≡◌, ◌<◌, All, IfOk, length, map, option_copied, string_bytes};
 ghost use Rattle.elf_image.specs.Layout.{IsPlaced};
 ghost use Rattle.lx_machine.specs.Lists.{at_place};
-ghost use Rattle.lx_machine.specs.Step.{room_of};
+ghost use Rattle.lx_machine.specs.Interests.{side_holds};
 ghost use Rattle.lx_calls.specs.Table.{step};
-ghost use Rattle.lx_run.specs.Start as first;
-ghost use Rattle.lx_run.specs.Stack.{name_of, arguments_of};
-ghost use Rattle.lx_play.specs.Play.{stage_in, trap_in, last_put, Takes, Reaches};
+ghost use Rattle.lx_start.specs.Start as first;
+ghost use Rattle.lx_start.specs.Stack.{name_of, arguments_of};
+ghost use Rattle.lx_player.specs.Play.{stage_in, trap_in, last_put, Takes, Reaches};
 
 use elf_image::Image;
 use linux_abi::LinuxSig;
@@ -15,6 +15,7 @@ use lx_machine::buffer::NoMemory;
 use lx_machine::calls::Stage;
 use lx_machine::label::{Label, LxSide};
 use lx_machine::refusal::LxRefusal;
+use lx_machine::state::LinuxState;
 use lx_machine::threads::{GuestEnd, LxThread};
 use lx_run::state::LxState;
 use std::alloc::Global;
@@ -60,8 +61,15 @@ impl Machine {
         self.state.state().end
     }
 
-    // The thread in this slot.
-    fn thread(&self, slot: u8) -> Option<&LxThread>
+    /// The state of the guest.
+    pub fn state(&self) -> &LinuxState
+        ensures { result.now ≡ self.now.state.state }
+    {
+        self.state.state()
+    }
+
+    /// The thread in this slot.
+    pub fn thread(&self, slot: u8) -> Option<&LxThread>
         requires { slot < 32 }
         ensures { option_copied result ≡ at_place self.now.state.state.threads slot }
     {
@@ -77,19 +85,6 @@ impl Machine {
         Some(stage_of(call))
     }
 
-    /// The result of the call with this number, in the form of x0, where the thread in this slot is in it and it has one.
-    #[cfg(test)]
-    pub fn result(&self, slot: u8, number: u64) -> Option<u64>
-        requires { slot < 32 }
-    {
-        let call = self.thread(slot)?.call.as_ref()?;
-        if call.number == number {
-            call.result
-        } else {
-            None
-        }
-    }
-
     /// The signal of the trap of the thread in this slot, where there is one that has trapped.
     pub fn trap(&self, slot: u8) -> Option<LinuxSig>
         requires { slot < 32 }
@@ -101,7 +96,7 @@ impl Machine {
 
     /// How many bytes a console room holds.
     pub fn held(&self, side: LxSide) -> usize
-        ensures { result ≡ length (room_of self.now.state.state side) }
+        ensures { result ≡ length (side_holds self.now.state.state.files side) }
     {
         let files = &self.state.state().files;
         match side {
