@@ -15,8 +15,6 @@ mod scripts;
 #[cfg(test)]
 mod signals;
 #[cfg(test)]
-mod steps;
-#[cfg(test)]
 mod threads;
 #[cfg(test)]
 mod time;

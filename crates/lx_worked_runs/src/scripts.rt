@@ -1,14 +1,18 @@
 //! Scripts of worked runs.
 
-use crate::steps::{stage, step, take, thread};
 use code_image::image_of;
 use elf_image::read_image;
-use lx_machine::calls::Stage;
+use lx_calls::shape::stage_of;
+use lx_machine::calls::{LxCall, Stage};
 use lx_machine::label::Label;
 use lx_machine::memory::is_allowed;
-use lx_machine::threads::GuestEnd;
+use lx_machine::threads::{GuestEnd, LxThread};
 use lx_memory::Right;
-use lx_run::state::LxState;
+use lx_player::machine::Machine;
+use lx_player::play::{RunEnd, play};
+use lx_player::schedule::Schedule;
+use lx_player::turns::step_of;
+use outside::MemSink;
 use std::alloc::Global;
 use std::test::Fail;
 
@@ -39,6 +43,8 @@ pub enum Line {
     Lives(u8, bool),
     /// All threads go on, each in its turn, up to the end of the guest or to a standstill, which is status 125.
     Status(u8),
+    /// The same, in turns by a seed.
+    Mixed(u64, u8),
     /// The guest has written this to standard output.
     Written(&'static [u8]),
 }
@@ -46,28 +52,48 @@ pub enum Line {
 /// More steps than one line takes of one thread.
 const MANY: u32 = 200_000;
 
-/// The steps that a thread takes one after the other where all go on.
-const TURN: u32 = 100;
-
 /// The guest with this code, at its start and without input.
-fn start(alloc: Global, code: &[u32]) -> Result<LxState, Fail> {
+fn start(alloc: Global, code: &[u32]) -> Result<Machine, Fail> {
     let image = read_image(alloc, &image_of(alloc, code)?)?;
     let mut words = Vec::new(alloc);
     words.push(String::from_str(alloc, "guest")?)?;
-    let started = LxState::start(alloc, &image, &words, Vec::new(alloc), 0);
+    let started = Machine::start(alloc, &image, &words, Vec::new(alloc));
     Ok(started.map_err(|_| "no memory")?)
 }
 
+/// The thread in this slot, if there is one.
+fn thread(machine: &Machine, slot: u8) -> Option<&LxThread> {
+    if slot < 32 {
+        machine.thread(slot)
+    } else {
+        None
+    }
+}
+
+/// The call of the thread in this slot, if it is in one.
+fn call(machine: &Machine, slot: u8) -> Option<&LxCall> {
+    thread(machine, slot)?.call.as_ref()
+}
+
+/// A step of the thread in this slot. False: it has none, or there is no thread.
+fn step(machine: &mut Machine, alloc: Global, slot: u8) -> Result<bool, Fail> {
+    if slot < 32 {
+        Ok(step_of(machine, alloc, slot).map_err(|_| "no memory")?)
+    } else {
+        Ok(false)
+    }
+}
+
 /// The number of the thread's call, where it is in one.
-fn number(state: &LxState, slot: u8) -> Option<u64> {
-    Some(thread(state, slot)?.call.as_ref()?.number)
+fn number(machine: &Machine, slot: u8) -> Option<u64> {
+    Some(call(machine, slot)?.number)
 }
 
 /// Whether the thread comes to this call. It leaves the one that it is in.
-fn to(state: &mut LxState, alloc: Global, slot: u8, wanted: u64) -> Result<bool, Fail> {
-    let mut left = number(state, slot).is_none();
+fn to(machine: &mut Machine, alloc: Global, slot: u8, wanted: u64) -> Result<bool, Fail> {
+    let mut left = number(machine, slot).is_none();
     for _ in 0..MANY {
-        match number(state, slot) {
+        match number(machine, slot) {
             Some(now) => {
                 if left && now == wanted {
                     return Ok(true);
@@ -75,7 +101,7 @@ fn to(state: &mut LxState, alloc: Global, slot: u8, wanted: u64) -> Result<bool,
             }
             None => left = true,
         }
-        if !step(state, alloc, slot)? {
+        if !step(machine, alloc, slot)? {
             return Ok(false);
         }
     }
@@ -83,9 +109,9 @@ fn to(state: &mut LxState, alloc: Global, slot: u8, wanted: u64) -> Result<bool,
 }
 
 /// Takes steps of a thread, at most so many, and answers how many it had.
-fn steps(state: &mut LxState, alloc: Global, slot: u8, most: u32) -> Result<u32, Fail> {
+fn steps(machine: &mut Machine, alloc: Global, slot: u8, most: u32) -> Result<u32, Fail> {
     for taken in 0..most {
-        if !step(state, alloc, slot)? {
+        if !step(machine, alloc, slot)? {
             return Ok(taken);
         }
     }
@@ -93,17 +119,17 @@ fn steps(state: &mut LxState, alloc: Global, slot: u8, most: u32) -> Result<u32,
 }
 
 /// What a register of the thread is.
-fn register(state: &LxState, slot: u8, number: usize) -> Option<u64> {
-    Some(*thread(state, slot)?.regs.x.get(number)?)
+fn register(machine: &Machine, slot: u8, number: usize) -> Option<u64> {
+    Some(*thread(machine, slot)?.regs.x.get(number)?)
 }
 
 /// What the thread's call answers.
-fn answer(state: &mut LxState, alloc: Global, slot: u8) -> Result<Option<i64>, Fail> {
+fn answer(machine: &mut Machine, alloc: Global, slot: u8) -> Result<Option<i64>, Fail> {
     for _ in 0..MANY {
-        if stage(state, slot).is_none() {
-            return Ok(register(state, slot, 0).map(u64::cast_signed));
+        if call(machine, slot).is_none() {
+            return Ok(register(machine, slot, 0).map(u64::cast_signed));
         }
-        if !step(state, alloc, slot)? {
+        if !step(machine, alloc, slot)? {
             return Ok(None);
         }
     }
@@ -111,8 +137,8 @@ fn answer(state: &mut LxState, alloc: Global, slot: u8) -> Result<Option<i64>, F
 }
 
 /// The word at an address, where it can be read.
-fn word(state: &LxState, at: u64) -> Option<u32> {
-    let pages = &state.state().space.pages;
+fn word(machine: &Machine, at: u64) -> Option<u32> {
+    let pages = &machine.state().space.pages;
     let mut bytes = [0; 4];
     if !is_allowed(pages, Right::Read, at, 4) {
         return None;
@@ -121,69 +147,59 @@ fn word(state: &LxState, at: u64) -> Option<u32> {
     Some(u32::from_le_bytes(bytes))
 }
 
-/// A turn of each thread. It answers whether there was a step.
-fn round(state: &mut LxState, alloc: Global) -> Result<bool, Fail> {
-    let mut goes = false;
-    for slot in 0..32 {
-        if steps(state, alloc, slot, TURN)? > 0 {
-            goes = true;
-        }
+/// The status of the guest once all its threads went on by this schedule.
+fn status(machine: &mut Machine, alloc: Global, mut schedule: Schedule) -> Result<u8, Fail> {
+    let mut out = MemSink::make(Vec::new(alloc), 1000, Vec::new(alloc));
+    let mut err = MemSink::make(Vec::new(alloc), 1000, Vec::new(alloc));
+    match play(machine, alloc, &mut schedule, &mut out, &mut err) {
+        RunEnd::Ended(GuestEnd::Exited(code)) => Ok(code),
+        RunEnd::Ended(GuestEnd::Killed(signal)) => Ok(signal.number().saturating_add(128)),
+        RunEnd::Standstill => Ok(125),
+        RunEnd::BudgetSpent | RunEnd::NoMemory | RunEnd::WriteFailed => Err("no end".into()),
     }
-    Ok(goes)
-}
-
-/// The status in which all goes on to the end.
-fn status(state: &mut LxState, alloc: Global) -> Result<u8, Fail> {
-    for _ in 0..MANY {
-        let goes = round(state, alloc)?;
-        match state.state().end {
-            Some(GuestEnd::Exited(code)) => return Ok(code),
-            Some(GuestEnd::Killed(signal)) => return Ok(signal.number().saturating_add(128)),
-            None => {}
-        }
-        if !goes {
-            return Ok(125);
-        }
-    }
-    Err("too many rounds".into())
 }
 
 /// Whether the thread's call has only to return this.
-fn is_answered(state: &LxState, slot: u8) -> bool {
-    matches!(stage(state, slot), Some(Stage::Return))
+fn is_answered(machine: &Machine, slot: u8) -> bool {
+    matches!(call(machine, slot).map(stage_of), Some(Stage::Return))
 }
 
 /// The deadline of the thread's call.
-fn deadline(state: &LxState, slot: u8) -> Option<u64> {
-    thread(state, slot)?.call.as_ref()?.deadline
+fn deadline(machine: &Machine, slot: u8) -> Option<u64> {
+    call(machine, slot)?.deadline
 }
 
 /// Whether a line is so.
-fn is_so(state: &mut LxState, alloc: Global, line: Line) -> Result<bool, Fail> {
+fn is_so(machine: &mut Machine, alloc: Global, line: Line) -> Result<bool, Fail> {
     match line {
-        Line::To(slot, wanted) => to(state, alloc, slot, wanted),
-        Line::Steps(slot, n) => Ok(steps(state, alloc, slot, n)? == n),
-        Line::Rests(slot) => Ok(steps(state, alloc, slot, MANY)? < MANY),
-        Line::Stuck(slot) => Ok(!step(state, alloc, slot)?),
-        Line::Answers(slot, wanted) => Ok(answer(state, alloc, slot)? == Some(wanted)),
+        Line::To(slot, wanted) => to(machine, alloc, slot, wanted),
+        Line::Steps(slot, n) => Ok(steps(machine, alloc, slot, n)? == n),
+        Line::Rests(slot) => Ok(steps(machine, alloc, slot, MANY)? < MANY),
+        Line::Stuck(slot) => Ok(!step(machine, alloc, slot)?),
+        Line::Answers(slot, wanted) => Ok(answer(machine, alloc, slot)? == Some(wanted)),
         Line::Returns(slot, wanted) => {
-            Ok(is_answered(state, slot) && answer(state, alloc, slot)? == Some(wanted))
+            Ok(is_answered(machine, slot) && answer(machine, alloc, slot)? == Some(wanted))
         }
-        Line::Holds(slot, number, wanted) => Ok(register(state, slot, number) == Some(wanted)),
-        Line::Deadline(slot, wanted) => Ok(deadline(state, slot) == Some(wanted)),
-        Line::Word(at, wanted) => Ok(word(state, at) == Some(wanted)),
-        Line::Time(time) => take(state, alloc, &Label::Time(time)),
-        Line::Lives(slot, wanted) => Ok(thread(state, slot).is_some() == wanted),
-        Line::Status(wanted) => Ok(status(state, alloc)? == wanted),
-        Line::Written(wanted) => Ok(state.state().files.put_out.as_slice() == wanted),
+        Line::Holds(slot, number, wanted) => Ok(register(machine, slot, number) == Some(wanted)),
+        Line::Deadline(slot, wanted) => Ok(deadline(machine, slot) == Some(wanted)),
+        Line::Word(at, wanted) => Ok(word(machine, at) == Some(wanted)),
+        Line::Time(time) => Ok(
+            machine
+                .take(alloc, &Label::Time(time))
+                .map_err(|_| "no memory")?,
+        ),
+        Line::Lives(slot, wanted) => Ok(thread(machine, slot).is_some() == wanted),
+        Line::Status(wanted) => Ok(status(machine, alloc, Schedule::rounds())? == wanted),
+        Line::Mixed(seed, wanted) => Ok(status(machine, alloc, Schedule::seeded(seed))? == wanted),
+        Line::Written(wanted) => Ok(machine.state().files.put_out.as_slice() == wanted),
     }
 }
 
 /// Runs a guest with this code by a script. It answers the number of the first line that isn't so, or the number of lines.
 pub fn played(alloc: Global, code: &[u32], script: &[Line]) -> Result<usize, Fail> {
-    let mut state = start(alloc, code)?;
+    let mut machine = start(alloc, code)?;
     for (place, next) in script.iter().enumerate() {
-        if !is_so(&mut state, alloc, *next)? {
+        if !is_so(&mut machine, alloc, *next)? {
             return Ok(place);
         }
     }

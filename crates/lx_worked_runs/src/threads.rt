@@ -1,7 +1,7 @@
 //! Threads from their clone to their exit. Each word is an assembler's output (GNU as 2.40), with its assembly above, where
 //! `call n`, `is n`, `end`, `room` and `thread a` stand for what they stand for in futexes.rt.
 
-use crate::scripts::Line::{Answers, Lives, Rests, Status, To, Written};
+use crate::scripts::Line::{Answers, Lives, Mixed, Rests, Status, To, Written};
 use crate::scripts::played;
 use std::test::Fail;
 
@@ -309,9 +309,20 @@ fn exit_group_ends_loop(rt: HostRuntime) -> Result<(), Fail> {
     Ok(())
 }
 
+// In rounds of all threads, and in turns by two seeds.
 #[test]
 fn eight_threads_sum_36(rt: HostRuntime) -> Result<(), Fail> {
-    let script = [Status(0), Written(b"sum 36\n")];
-    assert_eq!(rt; played(rt.alloc(), &SUM, &script)?, script.len());
+    assert_eq!(rt;
+        played(rt.alloc(), &SUM, &[Status(0), Written(b"sum 36\n")])?,
+        2
+    );
+    assert_eq!(rt;
+        played(rt.alloc(), &SUM, &[Mixed(1, 0), Written(b"sum 36\n")])?,
+        2
+    );
+    assert_eq!(rt;
+        played(rt.alloc(), &SUM, &[Mixed(2, 0), Written(b"sum 36\n")])?,
+        2
+    );
     Ok(())
 }
