@@ -5,6 +5,7 @@ use crate::scripts::Line::Status;
 use crate::scripts::played;
 use std::test::Fail;
 
+// The epoll is 3, the pipe 4 and 5, the counter 6.
 // room; mov x0, 0; call 20; is 3; add x0, x20, 0x100; mov x1, 0; call 59; is 0; mov x0, 1; call 19; is 6; mov w10, 5;
 // str w10, [x20]; mov x11, 44; str x11, [x20, 8]; mov x0, 3; mov x1, 1; mov x2, 4; mov x3, x20; call 21; is 0; mov x11,
 // 66; str x11, [x20, 8]; mov x0, 3; mov x2, 6; call 21; is 0; mov x0, 3; add x1, x20, 0x200; mov x2, 8; mov x3, -1; mov
@@ -83,6 +84,7 @@ static TWO_READY: [u32; 71] = [
     0xd400_0001,
 ];
 
+// The pipe is 3 and 4, the epoll 5.
 // room; add x0, x20, 0x100; mov x1, 0; call 59; is 0; mov x0, 0; call 20; is 5; mov w10, 1; str w10, [x20]; mov x11,
 // 33; str x11, [x20, 8]; mov x0, 5; mov x1, 1; mov x2, 3; mov x3, x20; call 21; is 0; mov x0, 3; mov x1, 7; mov x2, 0;
 // call 24; is 7; mov x0, 3; call 57; is 0; mov x0, 4; mov x1, x20; mov x2, 1; call 64; is 1; mov x0, 5; add x1, x20,
@@ -385,6 +387,7 @@ static ONE_SHOT: [u32; 101] = [
     0xd400_0001,
 ];
 
+// The epolls are 3 and 4, the counter 5.
 // room; mov x0, 0; call 20; is 3; mov x0, 0; call 20; is 4; mov x0, 0; mov x1, 0; call 19; is 5; mov w10, 1; str w10,
 // [x20]; mov x0, 3; mov x1, 3; mov x2, 5; mov x3, x20; call 21; is -2; mov x0, 3; mov x1, 1; call 21; is 0; mov x0, 3;
 // call 21; is -17; mov x0, 3; mov x2, 3; call 21; is -22; mov x0, 3; mov x2, 4; call 21; is -40; end
@@ -460,6 +463,8 @@ static REFUSALS: [u32; 69] = [
     0xd400_0001,
 ];
 
+// The epoll is 3, three counters 4 to 6; of each the descriptors 10 to 180 are opened, added and closed. x24 counts
+// what went well.
 // room; mov x0, 0; call 20; is 3; mov w10, 1; str w10, [x20]; mov x24, 0; mov x21, 4; c: mov x0, 0; mov x1, 0; call 19;
 // cmp x0, x21; cinc x19, x19, ne; mov x22, 10; d: mov x0, x21; mov x1, x22; mov x2, 0; call 24; cmp x0, x22; cinc x19,
 // x19, ne; mov x0, 3; mov x1, 1; mov x2, x22; mov x3, x20; call 21; cbnz x0, e; add x24, x24, 1; mov x0, x22; call 57;

@@ -31,6 +31,7 @@ static VECTOR: [u32; 22] = [
     0xd400_0001,
 ];
 
+// Thread 1 has its robust head at 0x10000, which is not mapped, and its clear address at 0x410000.
 // room; mov w10, 7; str w10, [x20]; thread a; call 172; ldr w0, [x20]; is 0; end; a: movz x0, 1, lsl 16; mov x1, 24;
 // call 99; is 0; mov x0, x20; call 96; is 1001; mov x0, x19; call 93
 static HEAD_UNMAPPED: [u32; 42] = [
@@ -78,6 +79,7 @@ static HEAD_UNMAPPED: [u32; 42] = [
     0xd400_0001,
 ];
 
+// The head at 0x410100 leads to 0x410300, which leads to 0x410340 and back; their words are 16 bytes in.
 // room; add x10, x20, 0x300; mov x12, 16; stp x10, x12, [x20, 0x100]; add x11, x20, 0x340; str x11, [x20, 0x300]; str
 // x10, [x20, 0x340]; mov w13, 0x3e9; str w13, [x20, 0x310]; thread a; call 172; end; a: add x0, x20, 0x100; mov x1, 24;
 // call 99; is 0; mov x0, 0; call 93
@@ -167,6 +169,7 @@ static SIGRETURN: [u32; 7] = [
     0xd400_0001,
 ];
 
+// The words of the tids are at 0x10000, which is not mapped.
 // movz x0, 0x0f00; movk x0, 0x17d, lsl 16; mov x1, 0; movz x2, 1, lsl 16; mov x3, 0; movz x4, 1, lsl 16; call 220; cbz
 // x0, a; is 1001; mov x0, x19; call 93; a: call 178; is 1001; add x0, x19, 5; call 93
 static TID_WORDS: [u32; 23] = [
@@ -195,6 +198,7 @@ static TID_WORDS: [u32; 23] = [
     0xd400_0001,
 ];
 
+// The events go to 0x10000, which is not mapped.
 // room; add x0, x20, 0x100; mov x1, 0; call 59; is 0; mov x0, 0; call 20; is 5; mov x0, 4; mov x1, x20; mov x2, 1; call
 // 64; is 1; mov w10, 0x80000001; str w10, [x20]; mov x0, 5; mov x1, 1; mov x2, 3; mov x3, x20; call 21; is 0; mov x0,
 // 5; movz x1, 1, lsl 16; mov x2, 8; mov x3, 0; mov x4, 0; call 22; is -14; mov x0, 5; add x1, x20, 0x200; call 22; is

@@ -5,6 +5,7 @@ use crate::scripts::Line::{Answers, Holds, Lives, Rests, Status, Steps, Stuck, T
 use crate::scripts::played;
 use std::test::Fail;
 
+// The entry at 0x410300, its word at 0x410310; the head at 0x410100.
 // room; add x10, x20, 0x300; add x11, x20, 0x100; stp x10, x11, [x20, 0x100]; mov x12, 16; stp x12, xzr, [x20, 0x108];
 // str x11, [x20, 0x300]; mov w13, 0x3e9; orr w13, w13, 0x80000000; str w13, [x20, 0x310]; mov x2, x13; mov x3, 0;
 // thread a; thread b; thread b; call 172; end; a: add x0, x20, 0x100; mov x1, 24; call 99; is 0; mov x0, x19; call 93;
@@ -70,6 +71,8 @@ static DEAD_OWNER: [u32; 58] = [
     0x1400_0000,
 ];
 
+// 3000 entries of 16 bytes from 0x410000 on, the last leads to the first; the word of each is 8 bytes in; the head at
+// 0x41f000.
 // room; mov x10, x20; mov w13, 0x3e9; mov x21, 3000; c: add x11, x10, 16; stp x11, x13, [x10], 16; sub x21, x21, 1;
 // cbnz x21, c; str x20, [x10, -16]; mov w14, 0x3ea; str w14, [x20, 104]; add x21, x20, 0xf000; str x20, [x21]; mov x12,
 // 8; stp x12, xzr, [x21, 8]; thread a; call 172; mov x10, x20; mov x21, 0; d: ldr w0, [x10, 8]; cmp x21, 2048; mov w9,
@@ -133,6 +136,7 @@ static WALK: [u32; 55] = [
     0xd400_0001,
 ];
 
+// The head at 0x410100 is alone; the pending entry is at 0x410300.
 // room; add x11, x20, 0x100; mov x12, 16; stp x11, x12, [x20, 0x100]; add x10, x20, 0x300; str x10, [x20, 0x110]; mov
 // w13, 0x3e9; str w13, [x20, 0x310]; thread a; call 172; ldr w0, [x20, 0x310]; mov x9, 0x40000000; cmp x0, x9; cinc
 // x19, x19, ne; end; a: add x0, x20, 0x100; mov x1, 24; call 99; mov x0, 0; call 93
@@ -177,6 +181,7 @@ static PENDING: [u32; 38] = [
     0xd400_0001,
 ];
 
+// The entries at 0x410300 and 0x10000, which is not mapped; the pending entry at 0x410400.
 // room; add x10, x20, 0x300; mov x12, 16; stp x10, x12, [x20, 0x100]; add x11, x20, 0x400; str x11, [x20, 0x110]; mov
 // x10, 0x10000; str x10, [x20, 0x300]; mov w13, 0x3e9; str w13, [x20, 0x310]; str w13, [x20, 0x410]; thread a; call
 // 172; ldr w0, [x20, 0x310]; mov x9, 0x40000000; cmp x0, x9; cinc x19, x19, ne; ldr w0, [x20, 0x410]; is 0x3e9; end; a:
@@ -229,6 +234,7 @@ static LIST_INTO_UNMAPPED: [u32; 45] = [
     0xd400_0001,
 ];
 
+// A page at 0x430000 that can be read alone has the clear address.
 // room; movz x0, 0x43, lsl 16; mov x1, 4096; mov x2, 1; mov x3, 0x32; call 222; mov x21, x0; mov x1, 0; mov x2, 0; mov
 // x3, 0; thread a; thread b; thread b; call 172; end; a: mov x0, x21; call 96; is 1001; mov x0, x19; call 93; b: mov
 // x0, x21; mov x1, 0; call 98; l: b l

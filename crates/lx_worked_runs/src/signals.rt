@@ -5,6 +5,8 @@ use crate::scripts::Line::{Answers, Holds, Rests, Status, To};
 use crate::scripts::played;
 use std::test::Fail;
 
+// The action of USR1 at 0x410100, the count of handlers at 0x410008, a timeout of 1000 seconds at 0x410020. Thread 1
+// waits four times: with SA_RESTART while the word changes, without, and with a timeout both ways.
 // room; adr x10, h; str x10, [x20, 0x100]; movz x11, 0x1000, lsl 16; str x11, [x20, 0x108]; mov x12, 1000; str x12,
 // [x20, 0x20]; thread a; mov x21, 4; c: mov x0, 10; add x1, x20, 0x100; mov x2, 0; mov x3, 8; call 134; call 172; mov
 // w10, 1; str w10, [x20]; mov x0, 1001; mov x1, 10; call 130; ldr x11, [x20, 0x108]; eor x11, x11, 0x10000000; str x11,
@@ -103,6 +105,7 @@ static FUTEX_WAIT: [u32; 88] = [
     0xd65f_03c0,
 ];
 
+// The stack from 0x4f0000 to 0x500000.
 // room; movz x0, 0x4f, lsl 16; call 222; add x21, x0, 0x10, lsl 12; mov sp, x21; adr x10, h; mov x11, 4; stp x10, x11,
 // [x20]; stp xzr, xzr, [x20, 16]; mov x0, 10; mov x1, x20; mov x2, 0; mov x3, 8; call 134; is 0; mov x29, 77; mov x30,
 // 88; mov x0, 1000; mov x1, 10; call 130; s: b s; h: is 10; sub x10, x21, 16; cmp x29, x10; cinc x19, x19, ne; ldp x12,
@@ -465,6 +468,7 @@ static STACK_SIZES: [u32; 30] = [
     0xd400_0001,
 ];
 
+// SIGPIPE is ignored.
 // room; mov x10, 1; str x10, [x20]; mov x0, 13; mov x1, x20; mov x2, 0; mov x3, 8; call 134; is 0; add x0, x20, 0x20;
 // mov x1, 0; call 59; is 0; ldr w0, [x20, 0x20]; call 57; is 0; ldr w0, [x20, 0x24]; mov x1, x20; mov x2, 1; call 64;
 // is -32; end

@@ -93,6 +93,8 @@ static EXIT_GROUP: [u32; 10] = [
     0xd400_0001,
 ];
 
+// At x20: the page of the total (0), the lock (8), the condition (16), the count of those done (24), and at 0x100 + 8 i
+// the word that the death of thread i clears. x22: i. x21: the stacks.
 // sub sp, sp, 64; mov x0, 0; mov x1, 4096; mov x2, 3; mov x3, 0x22; mov x4, -1; mov x5, 0; call 222; mov x20, x0; mov
 // x22, 1; c: mov x0, 0; mov x1, 0x22; lsl x1, x1, 12; mov x2, 0; mov x3, 0x22; mov x4, -1; mov x5, 0; call 222; mov
 // x21, x0; add x0, x21, 0x1000; mov x1, 0x21; lsl x1, x1, 12; mov x2, 3; call 226; is 0; add x4, x20, 0x100; add x4,

@@ -5,6 +5,7 @@ use crate::scripts::Line::{Answers, Deadline, Rests, Status, Stuck, Time, To};
 use crate::scripts::played;
 use std::test::Fail;
 
+// Durations: 1,500,000 ns and 1 ns.
 // room; mov x0, 1; add x1, x20, 0x20; call 113; is 0; ldr x0, [x20, 0x20]; is 0; ldr x0, [x20, 0x28]; movz x9, 0x4240;
 // movk x9, 0xf, lsl 16; cmp x0, x9; cinc x19, x19, ne; movz x10, 0xe360; movk x10, 0x16, lsl 16; str x10, [x20, 8]; mov
 // x0, x20; mov x1, 0; call 101; is 0; mov x10, 1; str x10, [x20, 8]; mov x0, x20; call 101; is 0; end
