@@ -36,7 +36,7 @@ use Rattle.a64_model.specs.declared.access.Answer.TheVariants as answer
 use Rattle.a64_model.specs.declared.access.Next.{Next}
 use Rattle.a64_model.specs.declared.access.Next.TheVariants.{Trap}
 
--- ---- alignment (DDI 0487, B2.5 and D1.8.2): the trap is SIGBUS, 7, with code 1
+-- ---- alignment (DDI 0487, Alignment support and SP alignment checking): the trap is SIGBUS, 7, with code 1
 
 abbrev pub misaligned : ℕ → Next
 misaligned address = Trap 7 (pos 1) address
