@@ -17,11 +17,11 @@ use Rattle.lx_clones.specs.Clones.{clone_refusals, set_robust_list_refusals}
 use Rattle.lx_threads.specs.Futexes.{futex_refusals, futex_pieces}
 use Rattle.lx_threads.specs.Time.{nanosleep_pieces, clock_gettime_refusals}
 use Rattle.lx_signals.specs.Sending.{kill_refusals, tkill_refusals, tgkill_refusals}
-use Rattle.lx_signals.specs.Actions.{sigaction_refusals, sigaction_pieces}
-use Rattle.lx_signals.specs.Masks.{sigprocmask_refusals, sigprocmask_pieces, sigpending_refusals, sigsuspend_refusals, sigsuspend_pieces}
-use Rattle.lx_signals.specs.Stacks.{sigaltstack_pieces}
-use Rattle.lx_signals.specs.Frames.{sigreturn_pieces}
-use Rattle.lx_calls.specs.Vectors.{most_vectors}
+use Rattle.lx_signal_calls.specs.Actions.{sigaction_refusals, sigaction_pieces}
+use Rattle.lx_signal_calls.specs.Masks.{sigprocmask_refusals, sigprocmask_pieces, sigpending_refusals, sigsuspend_refusals, sigsuspend_pieces}
+use Rattle.lx_signal_calls.specs.Stacks.{sigaltstack_pieces}
+use Rattle.lx_signal_calls.specs.Frames.{sigreturn_pieces}
+use Rattle.lx_transfers.specs.Vectors.{most_vectors}
 
 -- the address is no multiple of a page
 abbrev pub is_unaligned : ℕ → Bool

@@ -6,7 +6,5 @@ pub mod ProcessCalls
 pub mod Shape
 pub mod SignalSteps
 pub mod Table
-pub mod Transfers
-pub mod Vectors
 pub mod Waits
 pub mod WholeCalls

@@ -8,7 +8,7 @@ use Rattle.linux_abi.specs.declared.calls.Call.{Call}
 use Rattle.linux_abi.specs.declared.calls.Call.TheVariants as call
 use Rattle.vm_areas.specs.declared.runs.Rights.{Rights}
 use Rattle.lx_memory.specs.Ranges.{mapped, unmapped, protected, zeroed}
-use Rattle.lx_machine.specs.Memory.{all_mapped, all_free, any_executable, highest_gap}
+use Rattle.lx_memory.specs.Queries.{all_mapped, all_free, any_executable, highest_gap}
 use Rattle.lx_machine.specs.Calls.{argument, low_argument, answered, refused}
 use Rattle.lx_machine.specs.declared.space.Space.{Space}
 use Rattle.lx_machine.specs.declared.calls.LxCall.{LxCall}

@@ -16,11 +16,11 @@ use Rattle.lx_clones.specs.Clones.{clone_stage, birth_stage, clone_not_stored}
 use Rattle.lx_threads.specs.Deaths.{death_stage, death_fetched, death_not_fetched, death_stored}
 use Rattle.lx_threads.specs.Futexes.{futex_stage, futex_fetched}
 use Rattle.lx_threads.specs.Time.{nanosleep_stage, clock_gettime_stage, timeout_fetched}
-use Rattle.lx_signals.specs.Actions.{sigaction_stage}
-use Rattle.lx_signals.specs.Frames.{sigreturn_stage}
-use Rattle.lx_signals.specs.Masks.{blockable, fetched_mask, sigprocmask_stage, sigsuspend_stage}
-use Rattle.lx_signals.specs.Stacks.{sigaltstack_stage}
-use Rattle.lx_calls.specs.Vectors.{vectors, has_negative}
+use Rattle.lx_signal_calls.specs.Actions.{sigaction_stage}
+use Rattle.lx_signal_calls.specs.Frames.{sigreturn_stage}
+use Rattle.lx_signal_calls.specs.Masks.{blockable, fetched_mask, sigprocmask_stage, sigsuspend_stage}
+use Rattle.lx_signal_calls.specs.Stacks.{sigaltstack_stage}
+use Rattle.lx_transfers.specs.Vectors.{vectors, has_negative}
 
 -- ---- what a call without a result does next
 

@@ -11,7 +11,7 @@ use Rattle.lx_machine.specs.declared.label.PendingList.{PendingList}
 use Rattle.lx_machine.specs.declared.state.LinuxState.{LinuxState}
 use Rattle.lx_machine.specs.declared.threads.GuestEnd.TheVariants.{Killed}
 use Rattle.lx_machine.specs.declared.threads.LxThread.{LxThread}
-use Rattle.lx_signals.specs.Frames.{Framed, framed}
+use Rattle.lx_signal_calls.specs.Frames.{Framed, framed}
 use Rattle.lx_signals.specs.Sending.{forgotten}
 use Rattle.lx_signals.specs.Taking.{Delivered, return_as, take_thread}
 use Rattle.lx_calls.specs.Shape.{stage_of}

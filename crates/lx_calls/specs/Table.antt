@@ -16,7 +16,7 @@ use Rattle.lx_machine.specs.declared.label.Label.{Label}
 use Rattle.lx_machine.specs.declared.threads.LxThread.{LxThread}
 use Rattle.lx_calls.specs.Entry.{entered}
 use Rattle.lx_calls.specs.Shape.{stage_of, fetched, not_fetched, mask_of, written, not_written}
-use Rattle.lx_calls.specs.Transfers.{let_go}
+use Rattle.lx_transfers.specs.Transfers.{let_go}
 use Rattle.lx_calls.specs.FutexSteps.{queue, requeue, wake_op, release, resume}
 use Rattle.lx_calls.specs.Lives.{start, leave, mark, gone}
 use Rattle.lx_calls.specs.SignalSteps.{return, take, frame, kill, kill_in_call}
@@ -24,9 +24,9 @@ use Rattle.lx_calls.specs.Waits.{on_files, clock, hold, move, expire, interrupt}
 use Rattle.lx_calls.specs.WholeCalls.{whole_effect}
 use Rattle.lx_epolls.specs.Epolls.{epoll_create1, epoll_ctl}
 use Rattle.lx_clones.specs.Clones.{with_robust_list, set_robust_list}
-use Rattle.lx_signals.specs.Frames.{sigreturn_regs, sigreturn_mask, sigreturn_call}
-use Rattle.lx_signals.specs.Masks.{sigprocmask_mask, sigprocmask_call, sigpending_call}
-use Rattle.lx_signals.specs.Stacks.{sigaltstack_stack, sigaltstack_call}
+use Rattle.lx_signal_calls.specs.Frames.{sigreturn_regs, sigreturn_mask, sigreturn_call}
+use Rattle.lx_signal_calls.specs.Masks.{sigprocmask_mask, sigprocmask_call, sigpending_call}
+use Rattle.lx_signal_calls.specs.Stacks.{sigaltstack_stack, sigaltstack_call}
 use Rattle.lx_files.specs.Descriptors as descriptors
 use Rattle.lx_calls.specs.MemoryCalls as memory
 use Rattle.lx_calls.specs.ProcessCalls.{own_id, uname, set_tid_address, exit_group}

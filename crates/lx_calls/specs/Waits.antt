@@ -26,8 +26,8 @@ use Rattle.lx_threads.specs.Futexes.{Outcome, futex_clocked, is_timed, leaves_qu
 use Rattle.lx_threads.specs.Time.{has_passed, nanosleep_clocked, nanosleep_expired, nanosleep_interrupted, clock_gettime_clocked}
 use Rattle.lx_signals.specs.Taking.{found_in, listed, kept_from, with_kept}
 use Rattle.lx_calls.specs.FutexSteps.{on_queue}
-use Rattle.lx_calls.specs.Transfers as transfers
-use Rattle.lx_calls.specs.Transfers.{on_transfer}
+use Rattle.lx_transfers.specs.Transfers as transfers
+use Rattle.lx_transfers.specs.Transfers.{on_transfer}
 
 -- ---- Clock: the clock is read, or a deadline is set
 

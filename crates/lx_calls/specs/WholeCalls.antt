@@ -15,7 +15,7 @@ use Rattle.lx_machine.specs.declared.threads.LxThread.{LxThread}
 use Rattle.lx_clones.specs.Clones.{Cloned, cloned, get_robust_list}
 use Rattle.lx_signals.specs.declared.sending.Sending.{Sending}
 use Rattle.lx_signals.specs.Sending.{queued, forgotten, kill_sending, tkill_sending, tgkill_sending, answered_by, pending_after, threads_after}
-use Rattle.lx_signals.specs.Actions.{sigaction_actions, sigaction_forgets, sigaction_call}
+use Rattle.lx_signal_calls.specs.Actions.{sigaction_actions, sigaction_forgets, sigaction_call}
 
 -- the state with all threads in their places, the caller in no call, and the call beside it
 pub record Whole : Type 0 where

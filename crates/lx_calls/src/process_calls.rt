@@ -47,11 +47,7 @@ pub fn uname(alloc: Global, call: &mut LxCall) -> Result<(), NoMemory>
     ensures err { OnErr result (call.new ≡ call.old) }
 {
     let bytes = names(alloc)?;
-    let mut pieces = Pieces::none(alloc);
-    pieces.push(Piece {
-        at: call.arguments[0],
-        len: 390,
-    })?;
+    let pieces = Pieces::one(alloc, call.arguments[0], 390)?;
     call.answer_with(0, pieces, bytes);
     Ok(())
 }

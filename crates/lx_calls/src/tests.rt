@@ -4,7 +4,7 @@ use crate::entry::enter;
 use crate::memory_calls::{brk, mmap, munmap};
 use crate::process_calls::uname;
 use crate::shape::{after_fetch, stage_of};
-use crate::transfers::{hold, let_go, move_bytes};
+use lx_transfers::transfers::{hold, let_go, move_bytes};
 use lx_files::descriptors::{eventfd2, pipe2};
 use lx_machine::buffer::{Bytes, Room};
 use lx_machine::calls::{LxCall, Piece, Stage};

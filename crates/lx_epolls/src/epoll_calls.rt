@@ -99,22 +99,13 @@ pub fn epoll_ctl_refusal(call: &LxCall) -> Option<LinuxErrno>
     refused_if(control_of(call).is_none(), LinuxErrno::EINVAL)
 }
 
-/// One piece.
-fn one_piece(alloc: Global, at: u64, len: u64) -> Result<Pieces, NoMemory>
-    ensures { IfOk result (λ pieces. pieces ≡ piece at len ∷ []) }
-{
-    let mut pieces = Pieces::none(alloc);
-    pieces.push(Piece { at, len })?;
-    Ok(pieces)
-}
-
 /// The pieces that epoll_ctl(2) fetches: the event, for an add and a change.
 pub fn epoll_ctl_pieces(alloc: Global, call: &LxCall) -> Result<Pieces, NoMemory>
     ensures { IfOk result (λ pieces. pieces ≡ epoll_ctl_pieces call.now) }
 {
     match control_of(call) {
-        Some(EpollOperation::Add) => one_piece(alloc, call.arguments[3], EVENT),
-        Some(EpollOperation::Change) => one_piece(alloc, call.arguments[3], EVENT),
+        Some(EpollOperation::Add) => Pieces::one(alloc, call.arguments[3], EVENT),
+        Some(EpollOperation::Change) => Pieces::one(alloc, call.arguments[3], EVENT),
         Some(EpollOperation::Delete) => Ok(Pieces::none(alloc)),
         None => Ok(Pieces::none(alloc)),
     }
@@ -406,7 +397,7 @@ pub fn epoll_pwait_pieces(alloc: Global, call: &LxCall) -> Result<Pieces, NoMemo
     if call.arguments[4] == 0 {
         return Ok(Pieces::none(alloc));
     }
-    one_piece(alloc, call.arguments[4], 8)
+    Pieces::one(alloc, call.arguments[4], 8)
 }
 
 /// Whether it waits for so long at most.
@@ -586,7 +577,7 @@ fn report_parts(
     ensures pieces { IfOk result (λ s. s.pieces ≡ piece at (16 * length picks.now) ∷ []) }
     ensures bytes { IfOk result (λ s. s.bytes ≡ events files.now interests.now picks.now) }
 {
-    let pieces = one_piece(alloc, at, EVENT * picks.len() as u64)?;
+    let pieces = Pieces::one(alloc, at, EVENT * picks.len() as u64)?;
     let bytes = events(alloc, files, interests, picks)?;
     Ok(Report { pieces, bytes })
 }

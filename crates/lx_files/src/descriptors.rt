@@ -321,8 +321,7 @@ fn pipe_parts(alloc: Global, at: u64, read_fd: u32, write_fd: u32) -> Result<Pip
     ensures bytes { IfOk result (λ parts. parts.bytes ≡ bytes_of read_fd 4 ++ bytes_of write_fd 4) }
 {
     let room = Room::make(alloc)?;
-    let mut pieces = Pieces::none(alloc);
-    pieces.push(Piece { at, len: 8 })?;
+    let pieces = Pieces::one(alloc, at, 8)?;
     let bytes = two_descriptors(alloc, read_fd, write_fd)?;
     Ok(PipeParts {
         room,

@@ -1,4 +1,1 @@
-pub mod HighestGaps
-pub mod Lacking
-pub mod PageTests
 pub mod Waiters

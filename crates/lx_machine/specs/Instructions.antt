@@ -20,7 +20,7 @@ use Rattle.linux_abi.specs.declared.signals.LinuxSig.TheVariants as signal
 use Rattle.lx_machine.specs.Calls.{new_call}
 use Rattle.lx_memory.specs.Bytes.{bytes_at, with_bytes}
 use Rattle.lx_memory.specs.declared.right.Right.TheVariants.{Read, Write, Execute}
-use Rattle.lx_machine.specs.Memory.{first_lacking, is_allowed}
+use Rattle.lx_memory.specs.Queries.{first_lacking, is_allowed}
 use Rattle.lx_machine.specs.declared.state.LinuxState.{LinuxState}
 use Rattle.page_store.specs.Pages.{Pages}
 use Rattle.lx_machine.specs.Lists.{with_place}

@@ -2,7 +2,6 @@ pub mod Calls
 pub mod Instructions
 pub mod Interests
 pub mod Lists
-pub mod Memory
 pub mod Pieces
 pub mod Queue
 pub mod Signals

@@ -7,7 +7,7 @@ use Rattle.lx_machine.specs.Lists.{bind, at_place}
 use Rattle.lx_machine.specs.Pieces.{without_first}
 use Rattle.lx_memory.specs.Bytes.{bytes_at}
 use Rattle.lx_memory.specs.declared.right.Right.TheVariants.{Read, Write}
-use Rattle.lx_machine.specs.Memory.{is_allowed}
+use Rattle.lx_memory.specs.Queries.{is_allowed}
 use Rattle.lx_machine.specs.declared.state.LinuxState.{LinuxState}
 use Rattle.lx_machine.specs.Threads.{is_live, without_thread, without_call, in_call_of}
 use Rattle.lx_machine.specs.Instructions.{instruction, stored}

@@ -1,7 +1,7 @@
 //! Calls that have been entered.
-ghost use Rattle.std.specs.Prelude.{◌≡◌, ◌<◌, [], ◌++◌, ◌∷◌, Some, None, if◌then◌else◌, OnOk, OnErr};
+ghost use Rattle.std.specs.Prelude.{◌≡◌, ◌<◌, [], ◌++◌, ◌∷◌, Some, None, if◌then◌else◌, IfOk, OnOk, OnErr};
 ghost use Rattle.lx_machine.specs.Calls.{has_other};
-ghost use Rattle.lx_machine.specs.Pieces.{without_first};
+ghost use Rattle.lx_machine.specs.Pieces.{piece, without_first};
 
 use crate::buffer::{Bytes, NoMemory};
 use crate::death::Death;
@@ -41,6 +41,15 @@ impl Pieces {
         Pieces {
             items: Vec::new(alloc),
         }
+    }
+
+    /// One piece: so many bytes from an address on.
+    pub fn one(alloc: Global, at: u64, len: u64) -> Result<Pieces, NoMemory>
+        ensures { IfOk result (λ pieces. pieces ≡ piece at len ∷ []) }
+    {
+        let mut pieces = Pieces::none(alloc);
+        pieces.push(Piece { at, len })?;
+        Ok(pieces)
     }
 
     /// The pieces.

@@ -7,11 +7,9 @@
 pub mod buffer;
 pub mod calls;
 pub mod death;
-pub mod epolls;
 pub mod files;
 pub mod futexes;
 pub mod label;
-pub mod memory;
 pub mod queue;
 pub mod refusal;
 pub mod signals;

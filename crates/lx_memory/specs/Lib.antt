@@ -2,5 +2,6 @@ pub mod Access
 pub mod Bytes
 pub mod Ranges
 pub mod Gaps
+pub mod Queries
 pub mod Space
 pub mod MemoryFields

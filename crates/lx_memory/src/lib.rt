@@ -8,6 +8,7 @@ mod bytes;
 mod change;
 mod gaps;
 mod memory;
+pub mod queries;
 mod right;
 #[cfg(test)]
 mod tests;

@@ -13,7 +13,7 @@ use Rattle.lx_machine.specs.declared.state.LinuxState.{LinuxState}
 use Rattle.lx_machine.specs.declared.threads.LxThread.{LxThread}
 use Rattle.lx_calls.specs.Entry.{entered}
 use Rattle.lx_run.specs.Places.{ran_at, ran_in, RunsIn}
-use Rattle.lx_run.specs.declared.instruction.Written.{Written}
+use Rattle.lx_instructions.specs.declared.instruction.Written.{Written}
 use Rattle.lx_machine.specs.declared.refusal.LxRefusal.TheVariants.{NoStep}
 
 -- what is put back where it was changes nothing

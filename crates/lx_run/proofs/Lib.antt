@@ -1,8 +1,4 @@
-pub mod Answering
-pub mod Exchanged
-pub mod Filled
 pub mod Instructed
-pub mod Small
 pub mod PutBack
 pub mod WholeStepped
 pub mod Staged

@@ -1,4 +1,3 @@
-pub mod Accesses
 pub mod CallSteps
 pub mod Outcomes
 pub mod Places

@@ -11,7 +11,7 @@ use Rattle.lx_machine.specs.declared.threads.LxThread.{LxThread}
 use Rattle.a64_model.specs.declared.regs.Regs.{Regs}
 use Rattle.lx_machine.specs.Lists.{with_place}
 use Rattle.lx_clones.specs.Clones.{started, without_child}
-use Rattle.lx_calls.specs.Transfers.{moved, on_transfer}
+use Rattle.lx_transfers.specs.Transfers.{moved, on_transfer}
 use Rattle.lx_calls.specs.Waits.{GivenUp, given_up}
 use Rattle.lx_calls.specs.WholeCalls.{Whole, whole}
 

@@ -6,7 +6,7 @@ use Rattle.lx_machine.specs.Instructions.{Ran, ran}
 use Rattle.lx_machine.specs.Step.{is_user}
 use Rattle.lx_machine.specs.declared.threads.LxThread.{LxThread}
 use Rattle.lx_calls.specs.Entry.{entered}
-use Rattle.lx_run.specs.declared.instruction.Written.{Written}
+use Rattle.lx_instructions.specs.declared.instruction.Written.{Written}
 use Rattle.lx_machine.specs.declared.refusal.LxRefusal.{LxRefusal}
 use Rattle.lx_machine.specs.declared.refusal.LxRefusal.TheVariants.{NoStep, NoMemory}
 

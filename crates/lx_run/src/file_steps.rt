@@ -4,7 +4,7 @@ ghost use Rattle.lx_machine.specs.Signals.{action_of};
 ghost use Rattle.lx_machine.specs.Step as machine;
 ghost use Rattle.linux_abi.specs.declared.signals.LinuxSig.TheVariants as signal;
 ghost use Rattle.lx_calls.specs.Table.{effects, file_effect};
-ghost use Rattle.lx_calls.specs.Transfers.{has_room_for_broken_pipe, with_broken_pipe};
+ghost use Rattle.lx_transfers.specs.Transfers.{has_room_for_broken_pipe, with_broken_pipe};
 ghost use Rattle.lx_calls.specs.Waits.{move};
 ghost use Rattle.lx_run.specs.Outcomes.{CallGoes, move_of_transfer};
 

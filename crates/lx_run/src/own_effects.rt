@@ -18,9 +18,9 @@ use lx_machine::calls::{LxCall, Stage};
 use lx_machine::refusal::LxRefusal;
 use lx_machine::state::LinuxState;
 use lx_machine::threads::LxThread;
-use lx_signals::masks::{sigpending, sigprocmask};
-use lx_signals::sigreturn::sigreturn;
-use lx_signals::stacks::sigaltstack;
+use lx_signal_calls::masks::{sigpending, sigprocmask};
+use lx_signal_calls::sigreturn::sigreturn;
+use lx_signal_calls::stacks::sigaltstack;
 use std::alloc::Global;
 
 /// The process and its user and group ids.

@@ -14,12 +14,12 @@ use linux_abi::Call;
 use lx_calls::shape::{after_fetch, after_store, mask_of, miss_fetch, miss_store};
 use lx_machine::buffer::{Bytes, NoMemory, ROOM};
 use lx_machine::calls::{LxCall, Piece, Pieces, Stage};
-use lx_machine::memory::is_allowed;
+use lx_memory::queries::is_allowed;
 use lx_machine::refusal::LxRefusal;
 use lx_machine::state::LinuxState;
 use lx_machine::threads::LxThread;
 use lx_memory::{Memory, Right};
-use lx_signals::masks::mask_for_call;
+use lx_signal_calls::masks::mask_for_call;
 use std::alloc::Global;
 
 /// The bytes of a range of mapped pages.

@@ -7,7 +7,7 @@ ghost use Rattle.lx_calls.specs.Entry.{entered};
 ghost use Rattle.lx_run.specs.Places.{ran_at, RunsAt, ran_in, RunsIn};
 ghost use Rattle.lx_run.specs.Steps.{Steps};
 
-use crate::instruction::{Written, run};
+use lx_instructions::instruction::{Written, run};
 use lx_machine::buffer::NoMemory;
 use lx_machine::refusal::LxRefusal;
 use lx_machine::state::{LinuxState, THREADS};

@@ -9,7 +9,7 @@ ghost use Rattle.lx_machine.specs.declared.refusal.LxRefusal.TheVariants.{NoStep
 ghost use Rattle.lx_run.specs.Outcomes.{CallGoes, GivesUp};
 
 use linux_abi::{Call, LinuxErrno, LinuxSig};
-use lx_calls::readiness::can_move as transfer_can_move;
+use lx_transfers::readiness::can_move as transfer_can_move;
 use lx_calls::transfers;
 use lx_epolls::epoll_calls::{epoll_can_move, epoll_expire, epoll_interrupt, set_timeout};
 use lx_machine::calls::{LxCall, Stage};

@@ -19,7 +19,7 @@ use lx_machine::calls::{LxCall, Stage};
 use lx_machine::refusal::LxRefusal;
 use lx_machine::state::{LinuxState, THREADS};
 use lx_machine::threads::LxThread;
-use lx_signals::actions::sigaction;
+use lx_signal_calls::actions::sigaction;
 use lx_signals::sending::{
     Sending, answer_by, forget, kill_sending, perform, queued, tgkill_sending, tkill_sending,
 };

@@ -10,7 +10,7 @@ use Rattle.linux_abi.specs.declared.signals.LinuxSig.{LinuxSig}
 use Rattle.page_store.specs.Pages.{Pages}
 use Rattle.lx_machine.specs.Lists.{bind}
 use Rattle.lx_machine.specs.Calls.{argument}
-use Rattle.lx_machine.specs.Memory.{all_mapped}
+use Rattle.lx_memory.specs.Queries.{all_mapped}
 use Rattle.lx_machine.specs.Signals.{default_action, has_signal, may_take, has_unblocked, without_signal, first_info}
 use Rattle.lx_machine.specs.Step.{is_user}
 use Rattle.lx_machine.specs.declared.calls.LxCall.{LxCall}

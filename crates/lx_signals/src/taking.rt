@@ -9,7 +9,7 @@ use linux_abi::LinuxSig;
 use linux_abi::signals::{SA_RESETHAND, SA_RESTART, SEGV_ACCERR, SEGV_MAPERR, SIG_DFL, SIG_IGN};
 use lx_machine::calls::Stage;
 use lx_machine::label::PendingList;
-use lx_machine::memory::all_mapped;
+use lx_memory::queries::all_mapped;
 use lx_machine::refusal::LxRefusal;
 use lx_machine::signals::{Action, Kept, Origin, Pending, SigInfo, Taken, has_signal};
 use lx_machine::threads::{Life, LxThread};
@@ -247,7 +247,7 @@ fn leave_call(again: bool, thread: &mut LxThread, first: u64, n: u64)
 }
 
 /// The mask that a call gives back when it returns.
-pub(crate) fn given_back(mask: u64, saved: Option<u64>) -> u64
+pub fn given_back(mask: u64, saved: Option<u64>) -> u64
     ensures { result ≡ given_back mask saved }
 {
     match saved {

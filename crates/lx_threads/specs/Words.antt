@@ -4,7 +4,7 @@ use Rattle.places.specs.Places.{bytes_of, number_at}
 use Rattle.page_store.specs.Pages.{Pages}
 use Rattle.lx_memory.specs.Bytes.{bytes_at, with_bytes}
 use Rattle.lx_memory.specs.declared.right.Right.TheVariants.{Read, Write}
-use Rattle.lx_machine.specs.Memory.{is_allowed}
+use Rattle.lx_memory.specs.Queries.{is_allowed}
 
 -- the word at an address
 abbrev pub word_at : Pages → ℕ → ℕ

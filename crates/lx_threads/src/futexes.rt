@@ -3,7 +3,7 @@ ghost use Rattle.std.specs.Prelude.{◌≡◌, ◌<◌, ◌^◌, Some, None, IfO
 ghost use Rattle.lx_machine.specs.Calls.{first_refusal, low_argument};
 ghost use Rattle.lx_threads.specs.Futexes.{operation_number, has_clock_flag, operation_in, is_wait, has_second, is_unaligned, is_negative, word_operation_in, comparison_in, bit_set_refusals, requeue_refusals, wake_op_refusals, own_refusals, operation_refusals, futex_refusals, is_timed, futex_pieces, futex_fetched, wait_of, wake_of, requeue_of, extended, operand_in, value_in, wake_op_by, wait_from, has_time, futex_stage, deadline_by, futex_clocked, outcome, queued, woken, requeue_releases, moves_on, requeued, requeued_by, operated, compares, wakes_after, word_operated, word_op, resumed, leaves_queue, wait_expired};
 
-use crate::time::{add_time, duration, has_passed, one_piece, set_deadline, timeout_fetched};
+use crate::time::{add_time, duration, has_passed, set_deadline, timeout_fetched};
 use crate::words::{readable_word, set_word, writable_word};
 use linux_abi::LinuxErrno;
 use linux_abi::futexes::{Comparison, FUTEX_BITSET_MATCH_ANY, FutexOperation, WordOperation};
@@ -162,7 +162,7 @@ pub fn futex_pieces(alloc: Global, call: &LxCall) -> Result<Pieces, NoMemory>
 {
     match operation_in(call) {
         Some(operation) if is_wait(operation) && is_timed(call) => {
-            one_piece(alloc, call.arguments[3], TIME)
+            Pieces::one(alloc, call.arguments[3], TIME)
         }
         _ => Ok(Pieces::none(alloc)),
     }

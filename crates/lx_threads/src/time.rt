@@ -107,20 +107,11 @@ pub(crate) fn set_deadline(call: &mut LxCall, deadline: u64)
     call.bytes.clear();
 }
 
-/// One piece.
-pub(crate) fn one_piece(alloc: Global, at: u64, len: u64) -> Result<Pieces, NoMemory>
-    ensures { IfOk result (λ pieces. pieces ≡ piece at len ∷ []) }
-{
-    let mut pieces = Pieces::none(alloc);
-    pieces.push(Piece { at, len })?;
-    Ok(pieces)
-}
-
 /// What nanosleep(2) fetches first: its duration.
 pub fn nanosleep_pieces(alloc: Global, call: &LxCall) -> Result<Pieces, NoMemory>
     ensures { IfOk result (λ pieces. pieces ≡ nanosleep_pieces call.now) }
 {
-    one_piece(alloc, call.arguments[0], TIME)
+    Pieces::one(alloc, call.arguments[0], TIME)
 }
 
 /// The deadline is set, and then the call waits.
@@ -175,7 +166,7 @@ pub fn nanosleep_interrupted(alloc: Global, clock: u64, call: &mut LxCall) -> Re
         return Ok(());
     }
     let bytes = time_bytes(alloc, rest_of(clock, call.deadline))?;
-    let pieces = one_piece(alloc, at, TIME)?;
+    let pieces = Pieces::one(alloc, at, TIME)?;
     call.answer_with(answer(LinuxErrno::EINTR), pieces, bytes);
     Ok(())
 }
@@ -201,7 +192,7 @@ pub fn clock_gettime_clocked(alloc: Global, clock: u64, call: &mut LxCall) -> Re
     ensures err { OnErr result (call.new ≡ call.old) }
 {
     let bytes = time_bytes(alloc, clock)?;
-    let pieces = one_piece(alloc, call.arguments[1], TIME)?;
+    let pieces = Pieces::one(alloc, call.arguments[1], TIME)?;
     call.answer_with(0, pieces, bytes);
     Ok(())
 }

@@ -4,7 +4,7 @@ ghost use Rattle.lx_memory.specs.Bytes.{IsMapped};
 ghost use Rattle.lx_threads.specs.Words.{word_at, with_word, readable_word, writable_word};
 
 use byteorder::{ByteOrder, LittleEndian};
-use lx_machine::memory::is_allowed;
+use lx_memory::queries::is_allowed;
 use lx_memory::{Memory, Right};
 
 /// The bytes of a word.

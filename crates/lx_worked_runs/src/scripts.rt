@@ -5,7 +5,7 @@ use elf_image::read_image;
 use lx_calls::shape::stage_of;
 use lx_machine::calls::{LxCall, Stage};
 use lx_machine::label::Label;
-use lx_machine::memory::is_allowed;
+use lx_memory::queries::is_allowed;
 use lx_machine::threads::{GuestEnd, LxThread};
 use lx_memory::Right;
 use lx_player::machine::Machine;

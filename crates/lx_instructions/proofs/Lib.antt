@@ -1,0 +1,4 @@
+pub mod Filled
+pub mod Exchanged
+pub mod Small
+pub mod Answering

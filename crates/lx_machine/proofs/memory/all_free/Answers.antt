@@ -1,5 +1,0 @@
-use Rattle.lx_machine.proofs.PageTests.{same_all_free}
-use Rattle.lx_machine.proofs.memory.all_free.Goals as goal
-
-pub returns : goal.returns
-returns c = same_all_free c.all_free.result c.args.memory.now c.args.first c.args.count c.all_free.ensures

@@ -1,5 +1,0 @@
-use Rattle.lx_machine.proofs.PageTests.{same_all_mapped}
-use Rattle.lx_machine.proofs.memory.all_mapped.Goals as goal
-
-pub returns : goal.returns
-returns c = same_all_mapped c.all_mapped.result c.args.memory.now c.args.first c.args.count c.all_mapped.ensures

@@ -1,5 +1,0 @@
-use Rattle.lx_machine.proofs.PageTests.{same_any_executable}
-use Rattle.lx_machine.proofs.memory.any_executable.Goals as goal
-
-pub returns : goal.returns
-returns c = same_any_executable c.any_executable.result c.args.memory.now c.args.first c.args.count c.any_executable.ensures

@@ -1,0 +1,4 @@
+pub mod Masks
+pub mod Actions
+pub mod Stacks
+pub mod Frames

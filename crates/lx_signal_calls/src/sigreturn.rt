@@ -1,0 +1,90 @@
+//! rt_sigreturn(2).
+ghost use Rattle.std.specs.Prelude.{◌≡◌, ◌≤◌, ◌+◌, ◌-◌, ◌*◌, ◌++◌, take, IfOk};
+ghost use Rattle.lx_signal_calls.specs.Frames as spec;
+ghost use Rattle.lx_signal_calls.specs.Frames.{numbers};
+
+use crate::masks::blockable;
+use crate::numbers::{number};
+use a64_model::regs::Regs;
+use lx_machine::buffer::NoMemory;
+use lx_machine::calls::{LxCall, Pieces, Stage};
+use std::alloc::Global;
+
+/// The place of ucontext in a frame.
+const CONTEXT: u64 = 128;
+
+/// How many bytes of ucontext are fetched.
+const FETCHED: u64 = 456;
+
+/// The places of the mask, x0, sp, pc and pstate in ucontext.
+const MASK: usize = 40;
+
+const X0: usize = 184;
+
+const SP: usize = 432;
+
+const PC: usize = 440;
+
+const PSTATE: usize = 448;
+
+/// What a thread with this stack pointer fetches: the first bytes of ucontext, unless sp is not aligned or they begin outside the
+/// address space.
+pub fn sigreturn_pieces(alloc: Global, sp: u64) -> Result<Pieces, NoMemory>
+    ensures { IfOk result (λ pieces. pieces ≡ spec.sigreturn_pieces sp) }
+{
+    match sp.checked_add(CONTEXT) {
+        Some(at) if sp % 16 == 0 => Pieces::one(alloc, at, FETCHED),
+        _ => Ok(Pieces::none(alloc)),
+    }
+}
+
+/// The piece is fetched, and then the call has its effect; where nothing could be fetched, the guest is killed.
+pub fn sigreturn_stage(call: &LxCall) -> Stage
+    ensures { result ≡ spec.sigreturn_stage call.now }
+{
+    match call.pieces.as_slice() {
+        [piece, ..] => Stage::Fetch(*piece),
+        [] => {
+            if call.fetched == 0 {
+                Stage::Kill
+            } else {
+                Stage::Effect
+            }
+        }
+    }
+}
+
+/// The numbers of x0 to x30, from the register i on.
+#[tactic(auto, using(crate::proofs::Restored::read_more, crate::proofs::Restored::read_all))]
+fn read_from(i: usize, bytes: &[u8], x: &mut [u64; 31])
+    requires { i ≤ 31 }
+    ensures { x.new ≡ take i x.old ++ numbers bytes.now (184 + 8 * i) (31 - i) }
+{
+    if i < 31 {
+        x[i] = number(bytes, X0 + 8 * i);
+        read_from(i + 1, bytes, x);
+    }
+}
+
+/// The registers in these bytes.
+fn read_regs(regs: &mut Regs, bytes: &[u8])
+    ensures { regs.new ≡ spec.restored regs.old bytes.now }
+{
+    read_from(0, bytes, &mut regs.x);
+    regs.sp = number(bytes, SP);
+    regs.pc = number(bytes, PC);
+    regs.nzcv = (number(bytes, PSTATE) / (1 << 28) % 16) as u8;
+}
+
+/// The effect of rt_sigreturn(2) on a thread's registers and mask: they are those of the frame, and the result is its x0.
+pub fn sigreturn(regs: &mut Regs, mask: &mut u64, call: &mut LxCall)
+    ensures regs { regs.new ≡ spec.sigreturn_regs regs.old call.old }
+    ensures mask { mask.new ≡ spec.sigreturn_mask call.old }
+    ensures call { call.new ≡ spec.sigreturn_call call.old }
+{
+    let bytes = call.bytes.as_slice();
+    read_regs(regs, bytes);
+    *mask = blockable(number(bytes, MASK));
+    let x0 = number(bytes, X0);
+    call.answer(x0);
+}

@@ -1,5 +1,0 @@
-use Rattle.std.proofs.Common.{◌-◌}
-use Rattle.lx_signals.proofs.sigreturn.+read_from.Given as goal
-
-abbrev pub decreases-read_from : goal.decreases-read_from
-decreases-read_from l = 31 - l.i

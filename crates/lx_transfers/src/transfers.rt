@@ -1,0 +1,231 @@
+//! The steps of read(2), write(2), readv(2) and writev(2) that hold an open file, give it back, and move bytes.
+ghost use Rattle.std.specs.Prelude.{◌≡◌, true, false, Some, None, IfErr, OnErr, OnOk};
+ghost use Rattle.lx_transfers.specs.Transfers.{outcome, is_read, direction_refusal, hold_file, held, is_held_most, has_most_holds, lets_go, dropped, with_counter, waits, ends_with, ends_refused, move_file, moved, Makes, interrupted_answer, interrupted, may_restart, has_room_for_broken_pipe, with_broken_pipe};
+
+use crate::reads::read_move;
+use crate::writes::write_move;
+use linux_abi::{Call, LinuxErrno, LinuxSig, answer};
+use lx_files::files::{give_back, hold_once, place_at, set_place};
+use lx_machine::buffer::NoMemory;
+use lx_machine::calls::LxCall;
+use lx_files::interests::arm_on;
+use lx_machine::files::{Counter, FileKind, Files, OpenFile};
+use lx_machine::refusal::LxRefusal;
+use lx_machine::signals::{Origin, Pending, SigInfo};
+use std::alloc::Global;
+
+/// Whether the call reads.
+pub(crate) fn is_read(call: &LxCall) -> bool
+    ensures { result ≡ is_read call.now }
+{
+    match Call::new(call.number) {
+        Some(Call::Read) => true,
+        Some(Call::Readv) => true,
+        _ => false,
+    }
+}
+
+/// What refuses a transfer in this direction.
+fn direction_refusal(reading: bool, kind: FileKind) -> Option<LinuxErrno>
+    ensures { result ≡ direction_refusal reading kind }
+{
+    match kind {
+        FileKind::Epoll(_) => Some(LinuxErrno::EINVAL),
+        FileKind::Counter(_) => None,
+        FileKind::Input if reading => None,
+        FileKind::PipeRead(_) if reading => None,
+        FileKind::Console(_) if !reading => None,
+        FileKind::PipeWrite(_) if !reading => None,
+        _ => Some(LinuxErrno::EBADF),
+    }
+}
+
+/// Holds this open file, or refuses the call.
+fn hold_file(files: &mut Files, call: &mut LxCall, file: u32, f: OpenFile) -> Result<(), NoMemory>
+    ensures ok { OnOk result (outcome files.new call.new ≡ hold_file files.old call.old file (Some f)) }
+    ensures err { OnErr result ((files.new ≡ files.old) × (call.new ≡ call.old)) }
+    ensures full { OnErr result (is_held_most (Some f) ≡ true) }
+{
+    match direction_refusal(is_read(call), f.kind) {
+        Some(e) => call.refuse(e),
+        None => {
+            hold_once(files, file, f)?;
+            call.held = Some(file);
+        }
+    }
+    Ok(())
+}
+
+/// Holds the open file of the first argument, or refuses the call (read(2), write(2)). `NoMemory`: one more hold of the
+/// file can't be counted; then nothing changes.
+pub fn hold(files: &mut Files, call: &mut LxCall) -> Result<(), NoMemory>
+    ensures ok { OnOk result (outcome files.new call.new ≡ held files.old call.old) }
+    ensures err { OnErr result ((files.new ≡ files.old) × (call.new ≡ call.old)) }
+    ensures full { OnErr result (has_most_holds files.old call.old ≡ true) }
+{
+    let Some(d) = place_at(&files.descriptors, call.low_argument(0)) else {
+        call.refuse(LinuxErrno::EBADF);
+        return Ok(());
+    };
+    let Some(f) = place_at(&files.files, d.file) else {
+        call.refuse(LinuxErrno::EBADF);
+        return Ok(());
+    };
+    hold_file(files, call, d.file, f)
+}
+
+/// The call gives this open file back.
+pub(crate) fn finish(files: &mut Files, call: &mut LxCall, file: u32)
+    ensures { outcome files.new call.new ≡ lets_go files.old call.old file }
+{
+    give_back(files, file);
+    call.held = None;
+}
+
+/// The call gives its open file back. Not enabled: it holds none.
+pub fn let_go(files: &mut Files, call: &mut LxCall) -> Result<(), LxRefusal>
+    ensures ok { OnOk result (dropped files.old call.old ≡ Some (outcome files.new call.new)) }
+    ensures err { OnErr result (dropped files.old call.old ≡ None) }
+    ensures kept { OnErr result ((files.new ≡ files.old) × (call.new ≡ call.old)) }
+    ensures no_step { IfErr result (λ e. e ≡ LxRefusal.NoStep) }
+{
+    match call.held {
+        Some(file) => {
+            finish(files, call, file);
+            Ok(())
+        }
+        None => Err(LxRefusal::NoStep),
+    }
+}
+
+/// A counter after a read or a write, which arms the interests in it.
+pub(crate) fn set_counter(files: &mut Files, number: u32, counter: Counter)
+    ensures { files.new ≡ with_counter files.old number counter }
+{
+    set_place(&mut files.counters, number, Some(counter));
+    arm_on(files, FileKind::Counter(number));
+}
+
+/// A move that ends with this number.
+pub(crate) fn end_with(files: &mut Files, call: &mut LxCall, file: u32, n: u64)
+    ensures { ends_with files.old call.old file n ≡ Some (outcome files.new call.new) }
+{
+    call.answer(n);
+    finish(files, call, file);
+}
+
+/// A move that ends with this error.
+pub(crate) fn end_refused(files: &mut Files, call: &mut LxCall, file: u32, e: LinuxErrno)
+    ensures { ends_refused files.old call.old file e ≡ Some (outcome files.new call.new) }
+{
+    call.refuse(e);
+    finish(files, call, file);
+}
+
+/// A move that has to wait.
+pub(crate) fn wait(
+    files: &mut Files,
+    call: &mut LxCall,
+    file: u32,
+    f: OpenFile,
+) -> Result<bool, LxRefusal>
+    ensures { Makes (waits files.old call.old file f) files.old call.old files.new call.new result }
+{
+    if !f.nonblocking {
+        return Err(LxRefusal::NoStep);
+    }
+    end_refused(files, call, file, LinuxErrno::EAGAIN);
+    Ok(false)
+}
+
+/// Moves bytes between the call and this open file.
+fn move_file(
+    alloc: Global,
+    files: &mut Files,
+    call: &mut LxCall,
+    file: u32,
+    f: OpenFile,
+) -> Result<bool, LxRefusal>
+    ensures { Makes (move_file files.old call.old file f) files.old call.old files.new call.new result }
+{
+    if is_read(call) {
+        read_move(alloc, files, call, file, f)
+    } else {
+        write_move(files, call, file, f)
+    }
+}
+
+/// Moves bytes between the call and its open file (read(2), write(2), pipe(7), eventfd(2)), and tells whether the thread
+/// gets SIGPIPE. Not enabled: it has to wait, or holds no open file that bytes move to or from. Then, and where memory is
+/// wanting, nothing changes.
+pub fn move_bytes(alloc: Global, files: &mut Files, call: &mut LxCall) -> Result<bool, LxRefusal>
+    ensures { Makes (moved files.old call.old) files.old call.old files.new call.new result }
+{
+    let Some(file) = call.held else {
+        return Err(LxRefusal::NoStep);
+    };
+    match place_at(&files.files, file) {
+        Some(f) => move_file(alloc, files, call, file, f),
+        None => Err(LxRefusal::NoStep),
+    }
+}
+
+/// What the call answers where a signal ends its wait.
+fn interrupted_answer(call: &LxCall) -> u64
+    ensures { result ≡ interrupted_answer call.now }
+{
+    if call.moved > 0 {
+        call.moved
+    } else {
+        answer(LinuxErrno::EINTR)
+    }
+}
+
+/// Interrupt: a signal ends the wait of a transfer (signal(7)), which answers what it has moved before, and else EINTR. Not
+/// enabled: it holds no open file; then nothing changes.
+pub fn interrupt(files: &mut Files, call: &mut LxCall) -> Result<(), LxRefusal>
+    ensures ok { OnOk result (interrupted files.old call.old ≡ Some (outcome files.new call.new)) }
+    ensures err { OnErr result (interrupted files.old call.old ≡ None) }
+    ensures kept { OnErr result ((files.new ≡ files.old) × (call.new ≡ call.old)) }
+{
+    let Some(file) = call.held else {
+        return Err(LxRefusal::NoStep);
+    };
+    let n = interrupted_answer(call);
+    end_with(files, call, file, n);
+    Ok(())
+}
+
+/// Whether a transfer that a signal has ended may start again (signal(7), SA_RESTART): it has moved nothing.
+pub fn may_restart(call: &LxCall) -> bool
+    ensures { result ≡ may_restart call.now }
+{
+    call.moved == 0
+}
+
+/// Whether SIGPIPE can become pending: it is ignored or pending already, or there is room for it.
+pub fn has_room_for_broken_pipe(pending: &Pending, is_ignored: bool) -> bool
+    ensures { result ≡ has_room_for_broken_pipe is_ignored pending.now }
+{
+    is_ignored || pending.has(LinuxSig::SIGPIPE) || !pending.is_full()
+}
+
+/// SIGPIPE becomes pending for a thread whose pipe broke (write(2)), unless it is ignored or pending already. `NoMemory`:
+/// as many signals are pending as can be; then nothing changes.
+pub fn send_broken_pipe(pending: &mut Pending, is_ignored: bool) -> Result<(), NoMemory>
+    ensures ok { OnOk result (pending.new ≡ with_broken_pipe is_ignored pending.old) }
+    ensures err { OnErr result (pending.new ≡ pending.old) }
+    ensures full { OnErr result (has_room_for_broken_pipe is_ignored pending.old ≡ false) }
+{
+    if is_ignored || pending.has(LinuxSig::SIGPIPE) {
+        return Ok(());
+    }
+    pending.push(SigInfo {
+        signal: LinuxSig::SIGPIPE,
+        code: 0,
+        origin: Origin::Sender {
+            pid: 1000,
+            uid: 1000,
+        },
+    })
+}
