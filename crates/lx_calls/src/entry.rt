@@ -5,7 +5,6 @@ ghost use Rattle.lx_machine.specs.Calls.{first_refusal};
 ghost use Rattle.lx_machine.specs.Pieces.{piece, clipped};
 ghost use Rattle.lx_calls.specs.Entry.{is_unaligned, pages_of, ends_above, is_fixed, wants_execute, vector_refusals, mmap_refusals, munmap_refusals, mprotect_refusals, madvise_refusals, eventfd_refusals, pipe_refusals, dup3_refusals, refusals, first_pieces, entered_as, entered};
 
-use lx_transfers::vectors::clip;
 use linux_abi::files::IOV_MAX;
 use linux_abi::memory::{Advice, MAP_ANONYMOUS, MAP_FIXED, MAP_PRIVATE, MAP_SHARED, PROT_EXEC};
 use linux_abi::{Call, LinuxErrno};
@@ -21,11 +20,12 @@ use lx_signal_calls::masks::{
     sigpending_refusal, sigprocmask_pieces, sigprocmask_refusal, sigsuspend_pieces,
     sigsuspend_refusal,
 };
-use lx_signals::sending::{kill_refusal, tgkill_refusal, tkill_refusal};
 use lx_signal_calls::sigreturn::sigreturn_pieces;
 use lx_signal_calls::stacks::sigaltstack_pieces;
+use lx_signals::sending::{kill_refusal, tgkill_refusal, tkill_refusal};
 use lx_threads::futexes::{futex_pieces, futex_refusal};
 use lx_threads::time::{clock_gettime_refusal, nanosleep_pieces};
+use lx_transfers::vectors::clip;
 use std::alloc::Global;
 
 /// The first address that no program has.

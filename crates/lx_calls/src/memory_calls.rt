@@ -7,9 +7,9 @@ use linux_abi::memory::{PROT_EXEC, PROT_READ, PROT_WRITE};
 use linux_abi::{Call, LinuxErrno};
 use lx_machine::buffer::NoMemory;
 use lx_machine::calls::LxCall;
-use lx_memory::queries::{all_free, all_mapped, any_executable, highest_gap};
 use lx_machine::refusal::LxRefusal;
 use lx_machine::space::Space;
+use lx_memory::queries::{all_free, all_mapped, any_executable, highest_gap};
 use vm_areas::Rights;
 
 /// The first page where a mapping without MAP_FIXED may lie.

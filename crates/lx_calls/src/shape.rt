@@ -4,7 +4,6 @@ ghost use Rattle.lx_machine.specs.Calls.{low_argument, storing, answered_stage};
 ghost use Rattle.lx_calls.specs.Shape.{fetch_first, write_stage, read_stage, readv_stage, exit_stage, working_stage, known_stage, finishing_stage, stage_of, fetched_by, with_vectors, fetched, not_fetched, mask_of, written, not_written};
 ghost use Rattle.lx_transfers.specs.Vectors.{vectors};
 
-use lx_transfers::vectors::{clip, has_negative, read_vectors};
 use linux_abi::{Call, LinuxErrno};
 use lx_clones::clones::{birth_stage, clone_not_stored, clone_stage};
 use lx_epolls::epoll_calls::{epoll_ctl_stage, epoll_pwait_stage};
@@ -17,6 +16,7 @@ use lx_signal_calls::stacks::sigaltstack_stage;
 use lx_threads::deaths::{death_fetched, death_not_fetched, death_stage, death_stored};
 use lx_threads::futexes::{futex_fetched, futex_stage};
 use lx_threads::time::{clock_gettime_stage, nanosleep_stage, timeout_fetched};
+use lx_transfers::vectors::{clip, has_negative, read_vectors};
 use std::alloc::Global;
 
 /// The next bytes are stored, and where none are left the call returns.

@@ -4,7 +4,6 @@ use crate::entry::enter;
 use crate::memory_calls::{brk, mmap, munmap};
 use crate::process_calls::uname;
 use crate::shape::{after_fetch, stage_of};
-use lx_transfers::transfers::{hold, let_go, move_bytes};
 use lx_files::descriptors::{eventfd2, pipe2};
 use lx_machine::buffer::{Bytes, Room};
 use lx_machine::calls::{LxCall, Piece, Stage};
@@ -12,6 +11,7 @@ use lx_machine::files::{Descriptor, FileKind, Files, Input, OpenFile};
 use lx_machine::label::LxSide;
 use lx_machine::space::Space;
 use lx_memory::Memory;
+use lx_transfers::transfers::{hold, let_go, move_bytes};
 use std::alloc::Global;
 use std::test::Fail;
 

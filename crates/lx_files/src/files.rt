@@ -5,8 +5,8 @@ ghost use Rattle.lx_machine.specs.Lists.{at_place, without_place, first_free, fi
 ghost use Rattle.lx_machine.specs.Interests.{armed_on, without_interests};
 ghost use Rattle.lx_files.specs.Files.{names, is_unnamed, is_read_end, is_write_end, is_open_as, has_reader, has_writer, without_pipe, after_end_of, without_file, ended_if_unnamed, settled, held_once_more, held_once_less, with_hold, given_back, with_descriptor, closed, with_file};
 
-use lx_machine::buffer::NoMemory;
 use crate::interests::{arm_on, remove_interests};
+use lx_machine::buffer::NoMemory;
 use lx_machine::files::{Descriptor, FileKind, Files, OpenFile};
 
 /// The lowest free place, where these are the places from `from` on.

@@ -21,9 +21,9 @@ use linux_abi::LinuxSig;
 use lx_calls::entry::enter;
 use lx_machine::buffer::NoMemory;
 use lx_machine::calls::LxCall;
-use lx_memory::queries::is_allowed;
 use lx_machine::signals::{Origin, SigInfo};
 use lx_machine::threads::LxThread;
+use lx_memory::queries::is_allowed;
 use lx_memory::{Memory, Right};
 use std::alloc::Global;
 

@@ -9,7 +9,6 @@ ghost use Rattle.lx_calls.specs.Waits.{move};
 ghost use Rattle.lx_run.specs.Outcomes.{CallGoes, move_of_transfer};
 
 use linux_abi::{Call, LinuxSig};
-use lx_calls::transfers;
 use lx_epolls::epoll_calls::{epoll_create1, epoll_ctl, epoll_hold, epoll_move};
 use lx_files::descriptors::{close, dup, dup3, eventfd2, fcntl, ioctl, lseek, pipe2};
 use lx_machine::calls::{LxCall, Stage};
@@ -19,6 +18,7 @@ use lx_machine::signals::Pending;
 use lx_machine::state::LinuxState;
 use lx_machine::threads::LxThread;
 use lx_signals::taking::action_of;
+use lx_transfers::transfers;
 use std::alloc::Global;
 
 /// Hold: the open file of a transfer, or the epoll of a wait, is found and held, or the call is refused.

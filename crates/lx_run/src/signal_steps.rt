@@ -12,7 +12,6 @@ ghost use Rattle.lx_run.specs.Steps.{IsDecided};
 use crate::threads::unmark;
 use linux_abi::{Call, LinuxSig};
 use lx_calls::shape::stage_of;
-use lx_transfers::transfers::may_restart;
 use lx_machine::calls::{LxCall, Stage};
 use lx_machine::label::PendingList;
 use lx_machine::refusal::LxRefusal;
@@ -22,6 +21,7 @@ use lx_signal_calls::frames::store_taken;
 use lx_signals::sending::forget;
 use lx_signals::taking::{Fate, Named, return_thread, take_thread};
 use lx_threads::futexes::is_timed;
+use lx_transfers::transfers::may_restart;
 
 /// The bytes of a frame and of its record.
 const FRAME: u128 = 4704;

@@ -14,8 +14,8 @@ ghost use Rattle.lx_run.specs.Steps.{Steps, IsDecided, IsDecidedAt};
 
 use crate::{slots, threads, whole_steps};
 use elf_image::Image;
-use lx_machine::buffer::NoMemory;
 use lx_files::interests::drain_side;
+use lx_machine::buffer::NoMemory;
 use lx_machine::files::Files;
 use lx_machine::label::{Label, LxSide};
 use lx_machine::refusal::LxRefusal;

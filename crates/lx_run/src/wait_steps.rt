@@ -9,8 +9,6 @@ ghost use Rattle.lx_machine.specs.declared.refusal.LxRefusal.TheVariants.{NoStep
 ghost use Rattle.lx_run.specs.Outcomes.{CallGoes, GivesUp};
 
 use linux_abi::{Call, LinuxErrno, LinuxSig};
-use lx_transfers::readiness::can_move as transfer_can_move;
-use lx_calls::transfers;
 use lx_epolls::epoll_calls::{epoll_can_move, epoll_expire, epoll_interrupt, set_timeout};
 use lx_machine::calls::{LxCall, Stage};
 use lx_machine::files::Files;
@@ -24,6 +22,8 @@ use lx_threads::futexes::{futex_clocked, leaves_queue, wait_expired};
 use lx_threads::time::{
     clock_gettime_clocked, has_passed, nanosleep_clocked, nanosleep_expired, nanosleep_interrupted,
 };
+use lx_transfers::readiness::can_move as transfer_can_move;
+use lx_transfers::transfers;
 use std::alloc::Global;
 
 /// Clock of a call of this kind.

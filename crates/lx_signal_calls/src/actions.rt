@@ -4,12 +4,12 @@ ghost use Rattle.lx_machine.specs.Calls.{first_refusal};
 ghost use Rattle.lx_signal_calls.specs.Actions as spec;
 
 use crate::numbers::{answer_storing, append_number, fetch_then, number, optional_piece};
-use lx_signals::taking::{action_of, is_ignored, set_action};
 use linux_abi::signals::SIGSET_SIZE;
 use linux_abi::{LinuxErrno, LinuxSig};
 use lx_machine::buffer::{Bytes, NoMemory};
 use lx_machine::calls::{LxCall, Pieces, Stage, refused_if};
 use lx_machine::signals::Action;
+use lx_signals::taking::{action_of, is_ignored, set_action};
 use std::alloc::Global;
 
 /// The bytes of a struct sigaction.

@@ -9,16 +9,16 @@ ghost use Rattle.lx_signal_calls.specs.Frames.{words, frame_top, record_at, fram
 use crate::masks::blockable;
 use crate::numbers::eight_bytes;
 use crate::stacks::{is_on, stack_flags};
-use lx_signals::taking::{given_back, has_flag};
 use a64_model::regs::Regs;
 use arrayvec::ArrayVec;
 use linux_abi::LinuxSig;
 use linux_abi::signals::{SA_NODEFER, SA_ONSTACK, SA_RESTORER, SA_SIGINFO};
-use lx_memory::queries::is_allowed;
 use lx_machine::refusal::LxRefusal;
 use lx_machine::signals::{Action, Origin, SigInfo, Taken};
 use lx_machine::threads::{AltStack, LxThread};
+use lx_memory::queries::is_allowed;
 use lx_memory::{Memory, Right};
+use lx_signals::taking::{given_back, has_flag};
 
 /// The bytes of a frame, without its record.
 const FRAME: u64 = 4688;

@@ -4,7 +4,7 @@ ghost use Rattle.lx_signal_calls.specs.Frames as spec;
 ghost use Rattle.lx_signal_calls.specs.Frames.{numbers};
 
 use crate::masks::blockable;
-use crate::numbers::{number};
+use crate::numbers::number;
 use a64_model::regs::Regs;
 use lx_machine::buffer::NoMemory;
 use lx_machine::calls::{LxCall, Pieces, Stage};

@@ -9,11 +9,11 @@ use linux_abi::LinuxSig;
 use linux_abi::signals::{SA_RESETHAND, SA_RESTART, SEGV_ACCERR, SEGV_MAPERR, SIG_DFL, SIG_IGN};
 use lx_machine::calls::Stage;
 use lx_machine::label::PendingList;
-use lx_memory::queries::all_mapped;
 use lx_machine::refusal::LxRefusal;
 use lx_machine::signals::{Action, Kept, Origin, Pending, SigInfo, Taken, has_signal};
 use lx_machine::threads::{Life, LxThread};
 use lx_memory::Memory;
+use lx_memory::queries::all_mapped;
 
 /// A signal that a step names: the list in which it stands, and which it is.
 pub type Named = (PendingList, LinuxSig);
