@@ -4,7 +4,12 @@ use Rattle.lx_machine.specs.Lists.{bind}
 use Rattle.lx_machine.specs.declared.label.Label.{Label}
 use Rattle.lx_machine.specs.declared.state.LinuxState.{LinuxState}
 use Rattle.lx_calls.specs.Table.{step, run}
-use Rattle.lx_player.specs.Play.{Reaches}
+use Rattle.lx_machine.specs.Step.{unless_ended, step_of}
+use Rattle.lx_machine.specs.declared.threads.GuestEnd.{GuestEnd}
+use Rattle.lx_calls.specs.Table.{effects}
+use Rattle.lx_player.specs.Play.{Reaches, HasEnded, IsEarly}
+use Rattle.lx_player.specs.declared.play.RunEnd.{RunEnd}
+use Rattle.lx_player.specs.declared.play.RunEnd.TheVariants as run_end
 
 pub here : (L : LinuxState) → Reaches L L
 here L = record { labels = []; goes = refl }
@@ -30,3 +35,27 @@ onward a b c first then = record { labels = first.labels ++ then.labels; goes = 
 
 pub onward_twice : (a b c d : LinuxState) → Reaches a b → Reaches b c → Reaches c d → Reaches a d
 onward_twice a b c d first then last = onward a c d (onward a b c first then) last
+
+-- ---- a guest that has ended stays as it is
+
+no_next : (o : Option GuestEnd) (e : GuestEnd) (next : Option LinuxState) (f : LinuxState → Option LinuxState) (b : LinuxState) → o ≡ Some e → bind (unless_ended o next) f ≡ Some b → ⊥
+no_next None e next f b is goes = absurd (cc)
+no_next (Some x) e next f b is goes = absurd (cc)
+
+at_end : (labels : List Label) (L L' : LinuxState) (e : GuestEnd) → L.end ≡ Some e → run L labels ≡ Some L' → L'.end ≡ Some e
+at_end [] L L' e is goes = grind arith
+at_end (l ∷ labels) L L' e is goes = absurd (no_next L.end e (step_of effects L l) (λ next. run next labels) L' is goes)
+
+pub still_ended : (L L' : LinuxState) (end : RunEnd) → HasEnded L end → Reaches L L' → HasEnded L' end
+still_ended L L' (run_end.Ended e) is r = at_end r.labels L L' e is r.goes
+still_ended L L' run_end.Standstill is r = tt
+still_ended L L' run_end.BudgetSpent is r = tt
+still_ended L L' run_end.NoMemory is r = tt
+still_ended L L' run_end.WriteFailed is r = tt
+
+pub ended_early : (L : LinuxState) (end : RunEnd) → IsEarly end → HasEnded L end
+ended_early L (run_end.Ended e) is = absurd is
+ended_early L run_end.Standstill is = tt
+ended_early L run_end.BudgetSpent is = tt
+ended_early L run_end.NoMemory is = tt
+ended_early L run_end.WriteFailed is = tt

@@ -1,5 +1,5 @@
 -- What the player sees of the Linux machine, and that it takes steps of it alone.
-use Rattle.std.specs.Prelude.{◌≡◌, ℕ, Bool, true, false, List, length, drop, ◌-◌, Option, Some, None, Result, Ok, Err}
+use Rattle.std.specs.Prelude.{◌≡◌, ⊤, ℕ, Bool, true, false, List, length, drop, ◌-◌, Option, Some, None, Result, Ok, Err}
 use Rattle.std.specs.Option.{option_map}
 use Rattle.linux_abi.specs.declared.signals.LinuxSig.{LinuxSig}
 use Rattle.lx_machine.specs.Lists.{bind, at_place}
@@ -12,6 +12,8 @@ use Rattle.lx_machine.specs.declared.label.LxSide.TheVariants as side
 use Rattle.lx_machine.specs.declared.state.LinuxState.{LinuxState}
 use Rattle.lx_calls.specs.Shape.{stage_of}
 use Rattle.lx_calls.specs.Table.{run}
+use Rattle.lx_player.specs.declared.play.RunEnd.{RunEnd}
+use Rattle.lx_player.specs.declared.play.RunEnd.TheVariants as run_end
 
 -- what the call of the thread in a slot does next
 abbrev pub stage_in : LinuxState → ℕ → Option Stage
@@ -41,3 +43,13 @@ Takes next old new (Err e) = new ≡ old
 pub record Reaches (old : LinuxState) (new : LinuxState) : Type 0 where
   pub labels : List Label
   pub goes : run old labels ≡ Some new
+
+-- where the run is told to have ended with the guest, the guest has ended so
+abbrev pub HasEnded : LinuxState → RunEnd → Type 0
+HasEnded L (run_end.Ended end) = L.end ≡ Some end
+HasEnded L _ = ⊤
+
+-- the run ended before the guest
+abbrev pub IsEarly : RunEnd → Type 0
+IsEarly (run_end.Ended end) = ⊥
+IsEarly _ = ⊤

@@ -1,6 +1,6 @@
 //! The run of a guest: the turns of its threads, the time that passes, and what it writes.
-ghost use Rattle.std.specs.Prelude.{◌<◌};
-ghost use Rattle.lx_player.specs.Play.{Reaches};
+ghost use Rattle.std.specs.Prelude.{◌<◌, IfOk, IfErr};
+ghost use Rattle.lx_player.specs.Play.{Reaches, HasEnded, IsEarly};
 
 use crate::machine::Machine;
 use crate::schedule::{SLOTS, Schedule};
@@ -33,9 +33,10 @@ pub enum RunEnd {
 }
 
 impl From<NoMemory> for RunEnd {
-    ghost use Rattle.std.specs.Prelude.{⊤};
+    ghost use Rattle.std.specs.Prelude.{◌≡◌};
+    ghost use Rattle.lx_player.specs.declared.play.RunEnd.TheVariants as run_end;
 
-    ghost from_gives = { λ _ _. ⊤ };
+    ghost from_gives = { λ _ end. end ≡ run_end.NoMemory };
 
     fn from(_: NoMemory) -> RunEnd {
         RunEnd::NoMemory
@@ -43,9 +44,10 @@ impl From<NoMemory> for RunEnd {
 }
 
 impl From<Failed> for RunEnd {
-    ghost use Rattle.std.specs.Prelude.{⊤};
+    ghost use Rattle.std.specs.Prelude.{◌≡◌};
+    ghost use Rattle.lx_player.specs.declared.play.RunEnd.TheVariants as run_end;
 
-    ghost from_gives = { λ _ _. ⊤ };
+    ghost from_gives = { λ _ end. end ≡ run_end.WriteFailed };
 
     fn from(_: Failed) -> RunEnd {
         RunEnd::WriteFailed
@@ -147,7 +149,8 @@ fn drain<S: Sink>(
     least: usize,
     sink: &mut S,
 ) -> Result<bool, RunEnd>
-    ensures { Reaches machine.old.state.state machine.new.state.state }
+    ensures reaches { Reaches machine.old.state.state machine.new.state.state }
+    ensures early { IfErr result IsEarly }
 {
     if machine.held(side) < least {
         return Ok(false);
@@ -166,7 +169,8 @@ fn drain_both<O: Sink, E: Sink>(
     out: &mut O,
     err: &mut E,
 ) -> Result<bool, RunEnd>
-    ensures { Reaches machine.old.state.state machine.new.state.state }
+    ensures reaches { Reaches machine.old.state.state machine.new.state.state }
+    ensures early { IfErr result IsEarly }
 {
     let drained_out = drain(machine, alloc, LxSide::Out, least, out)?;
     let drained_err = drain(machine, alloc, LxSide::Err, least, err)?;
@@ -211,7 +215,8 @@ fn wait<O: Sink, E: Sink>(
     out: &mut O,
     err: &mut E,
 ) -> Result<bool, RunEnd>
-    ensures { Reaches machine.old.state.state machine.new.state.state }
+    ensures reaches { Reaches machine.old.state.state machine.new.state.state }
+    ensures early { IfErr result IsEarly }
 {
     if drain_both(machine, alloc, 1, out, err)? {
         return Ok(true);
@@ -231,7 +236,8 @@ fn go_on<O: Sink, E: Sink>(
     out: &mut O,
     err: &mut E,
 ) -> Result<bool, RunEnd>
-    ensures { Reaches machine.old.state.state machine.new.state.state }
+    ensures reaches { Reaches machine.old.state.state machine.new.state.state }
+    ensures early { IfErr result IsEarly }
 {
     if taken == 0 {
         return wait(machine, alloc, out, err);
@@ -249,7 +255,9 @@ fn turns<O: Sink, E: Sink>(
     out: &mut O,
     err: &mut E,
 ) -> Result<RunEnd, RunEnd>
-    ensures { Reaches machine.old.state.state machine.new.state.state }
+    ensures reaches { Reaches machine.old.state.state machine.new.state.state }
+    ensures ended { IfOk result (HasEnded machine.new.state.state) }
+    ensures early { IfErr result IsEarly }
 {
     let mut left = BUDGET;
     for _ in 0..BUDGET {
@@ -270,7 +278,7 @@ fn turns<O: Sink, E: Sink>(
 
 /// Runs a guest to its end, and puts out what it writes. Where the budget is spent, no thread has a step or memory is
 /// wanting, what it has written is put out too.
-#[tactic(auto, using(crate::proofs::Runs::here, crate::proofs::Runs::onward))]
+#[tactic(auto, using(crate::proofs::Runs::here, crate::proofs::Runs::onward, crate::proofs::Runs::still_ended, crate::proofs::Runs::ended_early))]
 pub fn play<O: Sink, E: Sink>(
     machine: &mut Machine,
     alloc: Global,
@@ -278,7 +286,8 @@ pub fn play<O: Sink, E: Sink>(
     out: &mut O,
     err: &mut E,
 ) -> RunEnd
-    ensures { Reaches machine.old.state.state machine.new.state.state }
+    ensures reaches { Reaches machine.old.state.state machine.new.state.state }
+    ensures ended { HasEnded machine.new.state.state result }
 {
     let end = match turns(machine, alloc, schedule, out, err) {
         Ok(end) => end,
