@@ -45,7 +45,7 @@ pub struct Asked {
 }
 
 /// Registers with these values, and with others that are all different.
-pub fn registers(values: &[(u8, u64)], flags: u8) -> Regs {
+pub(crate) fn registers(values: &[(u8, u64)], flags: u8) -> Regs {
     let mut x = [0xA5A5_A5A5_0000_0000; 31];
     for (n, value) in x.iter_mut().enumerate() {
         *value |= n as u64;
@@ -62,7 +62,7 @@ pub fn registers(values: &[(u8, u64)], flags: u8) -> Regs {
 }
 
 /// Puts values into registers.
-pub fn put(regs: &mut Regs, values: &[(u8, u64)]) {
+pub(crate) fn put(regs: &mut Regs, values: &[(u8, u64)]) {
     for (place, value) in values {
         if *place == SP {
             regs.sp = *value;
@@ -181,7 +181,7 @@ fn ending_of(next: Next) -> Ending {
 
 /// Executes a word whose access memory does, with this number where it loads: what it asked, and what comes next. A word
 /// that is refused or that has no row has none.
-pub fn run(word: u32, regs: &mut Regs, memory: u128) -> Option<(Asked, Ending)> {
+pub(crate) fn run(word: u32, regs: &mut Regs, memory: u128) -> Option<(Asked, Ending)> {
     let Some(instr) = decode(word) else {
         return None;
     };
@@ -199,7 +199,7 @@ pub fn run(word: u32, regs: &mut Regs, memory: u128) -> Option<(Asked, Ending)> 
 }
 
 /// Executes a word whose access faults at this address: what comes next.
-pub fn run_faulting(word: u32, regs: &mut Regs, address: u64) -> Option<Ending> {
+pub(crate) fn run_faulting(word: u32, regs: &mut Regs, address: u64) -> Option<Ending> {
     let Some(instr) = decode(word) else {
         return None;
     };
@@ -217,7 +217,7 @@ pub fn run_faulting(word: u32, regs: &mut Regs, address: u64) -> Option<Ending> 
 }
 
 /// Executes a word that stores under a mark that doesn't stand: what comes next.
-pub fn run_unmarked(word: u32, regs: &mut Regs) -> Option<Ending> {
+pub(crate) fn run_unmarked(word: u32, regs: &mut Regs) -> Option<Ending> {
     let Some(instr) = decode(word) else {
         return None;
     };
@@ -230,7 +230,7 @@ pub fn run_unmarked(word: u32, regs: &mut Regs) -> Option<Ending> {
 }
 
 /// The trap of a word whose access is refused.
-pub fn refused(word: u32, regs: &Regs) -> Option<Ending> {
+pub(crate) fn refused(word: u32, regs: &Regs) -> Option<Ending> {
     let Some(instr) = decode(word) else {
         return None;
     };
