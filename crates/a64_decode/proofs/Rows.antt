@@ -67,11 +67,14 @@ no_row_among known word (r ∷ rows) all h =
     ap (λ b. cond b (Some r) (find (fits word) rows)) (ne_eqb (bit_and word r.mask) r.value (refused word r known all parts.0))
     ∙ no_row_among known word rows all parts.1
 
--- a word has no row where what is known of it refuses each row of the table
-pub no_row : (known : List Known) (word : ℕ) → HoldAll word known → list_all (is_refused known) ROWS ≡ true → None ≡ row word
+-- a word has no form where what is known of it refuses each row of the table
+pub no_form : (known : List Known) (word : ℕ) → HoldAll word known → list_all (is_refused known) ROWS ≡ true → form_of word ≡ None
 unfolding form_of
-no_row known word all h =
-    sym (ap (λ found. option_and_then (λ f. fields f word) (option_map (λ r. r.form) found)) (no_row_among known word ROWS all h))
+no_form known word all h = ap (option_map (λ r. r.form)) (no_row_among known word ROWS all h)
+
+-- and then no row
+pub no_row : (known : List Known) (word : ℕ) → HoldAll word known → list_all (is_refused known) ROWS ≡ true → None ≡ row word
+no_row known word all h = sym (ap (option_and_then (λ f. fields f word)) (no_form known word all h))
 
 -- the bits under the mask m decide whether a word with the value v there fits the row
 abbrev pub is_decided : ℕ → ℕ → Row → Bool
@@ -95,10 +98,16 @@ decided m v word (r ∷ rows) e h =
     ap (λ b. cond b (Some r) (find (fits word) rows)) (decided_row m v word r e parts.0)
     ∙ ap (λ o. cond (fits v r) (Some r) o) (decided m v word rows e parts.1)
 
--- where the bits under m decide each row of the table, a word with the value v there has the form of v, and its fields
+-- where the bits under m decide each row of the table, a word with the value v there has the form of v
+pub form_at : (m v word : ℕ) (f : Form) → bit_and word m ≡ v → list_all (is_decided m v) ROWS ≡ true → form_among ROWS v ≡ Some f → form_of word ≡ Some f
+unfolding form_of
+form_at m v word f e h at = ap (option_map (λ r. r.form)) (decided m v word ROWS e h) ∙ at
+
+-- and the fields of that form
 pub row_at : (m v word : ℕ) (f : Form) {i : Option Instr} → bit_and word m ≡ v → list_all (is_decided m v) ROWS ≡ true →
     form_among ROWS v ≡ Some f → i ≡ fields f word → i ≡ row word
-unfolding form_of
-row_at m v word f e h at read =
-    let form_is : form_among ROWS word ≡ Some f = ap (option_map (λ r. r.form)) (decided m v word ROWS e h) ∙ at in
-    read ∙ sym (ap (option_and_then (λ f. fields f word)) form_is)
+row_at m v word f e h at read = read ∙ sym (ap (option_and_then (λ f. fields f word)) (form_at m v word f e h at))
+
+-- under a mask that lies within another a word has the bits that its value under the other has
+pub narrowed : (m v k word : ℕ) → bit_and word m ≡ v → bit_and m k ≡ k → bit_and word k ≡ bit_and v k
+narrowed m v k word e within = sym (and_within word m k within) ∙ ap (λ n. bit_and n k) e

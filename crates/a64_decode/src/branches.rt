@@ -7,65 +7,8 @@ use a64_model::instr::Instr;
 use a64_model::operands::BranchKind;
 use a64_model::read::branches as read;
 
-/// Branches, exceptions and system instructions.
-pub fn branch_or_system(word: u32) -> Option<Instr>
-    requires { bit_and word 0x1C00_0000 ≡ 0x1400_0000 }
-    ensures row { result ≡ row word }
-    ensures widths { IfSome result HasWidths }
-{
-    match word & 0x7C00_0000 {
-        0x1400_0000 => branch(word),
-        0x3400_0000 => compare_or_test(word),
-        0x5400_0000 => conditional_or_system(word),
-        _ => None,
-    }
-}
-
-/// B and BL.
-fn branch(word: u32) -> Option<Instr>
-    requires { bit_and word 0x7C00_0000 ≡ 0x1400_0000 }
-    ensures row { result ≡ row word }
-    ensures widths { IfSome result HasWidths }
-{
-    match word & 0xFC00_0000 {
-        0x1400_0000 => read::branch(false, word),
-        0x9400_0000 => read::branch(true, word),
-        _ => None,
-    }
-}
-
-/// CBZ, CBNZ, TBZ and TBNZ.
-fn compare_or_test(word: u32) -> Option<Instr>
-    requires { bit_and word 0x7C00_0000 ≡ 0x3400_0000 }
-    ensures row { result ≡ row word }
-    ensures widths { IfSome result HasWidths }
-{
-    match word & 0x7F00_0000 {
-        0x3400_0000 => read::compare_branch(false, word),
-        0x3500_0000 => read::compare_branch(true, word),
-        0x3600_0000 => read::test_branch(false, word),
-        0x3700_0000 => read::test_branch(true, word),
-        _ => None,
-    }
-}
-
-/// B.cond, exceptions, system instructions, and branches to a register.
-fn conditional_or_system(word: u32) -> Option<Instr>
-    requires { bit_and word 0x7C00_0000 ≡ 0x5400_0000 }
-    ensures row { result ≡ row word }
-    ensures widths { IfSome result HasWidths }
-{
-    match word & 0xFF00_0000 {
-        0x5400_0000 => conditional(word),
-        0xD400_0000 => exception(word),
-        0xD500_0000 => system(word),
-        0xD600_0000 => branch_register(word),
-        _ => None,
-    }
-}
-
 /// B.cond.
-fn conditional(word: u32) -> Option<Instr>
+pub fn conditional(word: u32) -> Option<Instr>
     requires { bit_and word 0xFF00_0000 ≡ 0x5400_0000 }
     ensures row { result ≡ row word }
     ensures widths { IfSome result HasWidths }
@@ -77,7 +20,7 @@ fn conditional(word: u32) -> Option<Instr>
 }
 
 /// SVC and BRK.
-fn exception(word: u32) -> Option<Instr>
+pub fn exception(word: u32) -> Option<Instr>
     requires { bit_and word 0xFF00_0000 ≡ 0xD400_0000 }
     ensures row { result ≡ row word }
     ensures widths { IfSome result HasWidths }
@@ -90,7 +33,7 @@ fn exception(word: u32) -> Option<Instr>
 }
 
 /// Hints, barriers, and moves of a system register.
-fn system(word: u32) -> Option<Instr>
+pub fn system(word: u32) -> Option<Instr>
     requires { bit_and word 0xFF00_0000 ≡ 0xD500_0000 }
     ensures row { result ≡ row word }
     ensures widths { IfSome result HasWidths }
@@ -156,7 +99,7 @@ fn read_system_register(word: u32) -> Option<Instr>
 }
 
 /// BR, BLR and RET.
-fn branch_register(word: u32) -> Option<Instr>
+pub fn branch_register(word: u32) -> Option<Instr>
     requires { bit_and word 0xFF00_0000 ≡ 0xD600_0000 }
     ensures row { result ≡ row word }
     ensures widths { IfSome result HasWidths }

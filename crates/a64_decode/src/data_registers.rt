@@ -1,29 +1,16 @@
 //! Data processing with registers (DDI 0487, C4.1).
 ghost use Rattle.std.specs.Prelude.{◌≡◌, bit_and, IfSome};
-ghost use Rattle.a64_model.specs.Rows.{row};
+ghost use Rattle.std.specs.Option.{option_map};
+ghost use Rattle.a64_model.specs.Rows.{form_of, row};
 ghost use Rattle.a64_model.specs.Widths.{HasWidths};
+ghost use Rattle.a64_model.specs.declared.rows.Form.TheVariants.{TwoSource};
 
 use a64_model::instr::Instr;
 use a64_model::operands::{AddOp, OneSourceOp, TwoSourceOp};
 use a64_model::read::data_registers as read;
 
-/// Data processing with registers.
-pub fn register(word: u32) -> Option<Instr>
-    requires { bit_and word 0x0E00_0000 ≡ 0x0A00_0000 }
-    ensures row { result ≡ row word }
-    ensures widths { IfSome result HasWidths }
-{
-    match word & 0x1F00_0000 {
-        0x0A00_0000 => read::logical_shifted(word),
-        0x0B00_0000 => add_register(word),
-        0x1A00_0000 => conditional_or_source(word),
-        0x1B00_0000 => three_source(word),
-        _ => None,
-    }
-}
-
 /// Additions of a shifted or an extended register.
-fn add_register(word: u32) -> Option<Instr>
+pub fn add_register(word: u32) -> Option<Instr>
     requires { bit_and word 0x1F00_0000 ≡ 0x0B00_0000 }
     ensures row { result ≡ row word }
     ensures widths { IfSome result HasWidths }
@@ -48,7 +35,7 @@ fn add_extended(word: u32) -> Option<Instr>
 }
 
 /// Operations with the carry or under a condition, or with one or two sources.
-fn conditional_or_source(word: u32) -> Option<Instr>
+pub fn conditional_or_source(word: u32) -> Option<Instr>
     requires { bit_and word 0x1F00_0000 ≡ 0x1A00_0000 }
     ensures row { result ≡ row word }
     ensures widths { IfSome result HasWidths }
@@ -112,21 +99,29 @@ fn one_or_two_source(word: u32) -> Option<Instr>
     }
 }
 
+/// Which operation with two sources it is: divisions, and shifts by a register.
+fn two_source_op(word: u32) -> Option<TwoSourceOp>
+    requires { bit_and word 0x7FE0_0000 ≡ 0x1AC0_0000 }
+    ensures { form_of word ≡ option_map TwoSource result }
+{
+    match word & 0x7FE0_FC00 {
+        0x1AC0_0800 => Some(TwoSourceOp::UnsignedDivide),
+        0x1AC0_0C00 => Some(TwoSourceOp::SignedDivide),
+        0x1AC0_2000 => Some(TwoSourceOp::ShiftLeft),
+        0x1AC0_2400 => Some(TwoSourceOp::ShiftRight),
+        0x1AC0_2800 => Some(TwoSourceOp::ShiftRightSigned),
+        0x1AC0_2C00 => Some(TwoSourceOp::RotateRight),
+        _ => None,
+    }
+}
+
 /// Divisions, and shifts by a register.
 fn two_source(word: u32) -> Option<Instr>
     requires { bit_and word 0x7FE0_0000 ≡ 0x1AC0_0000 }
     ensures row { result ≡ row word }
     ensures widths { IfSome result HasWidths }
 {
-    match word & 0x7FE0_FC00 {
-        0x1AC0_0800 => read::two_source(TwoSourceOp::UnsignedDivide, word),
-        0x1AC0_0C00 => read::two_source(TwoSourceOp::SignedDivide, word),
-        0x1AC0_2000 => read::two_source(TwoSourceOp::ShiftLeft, word),
-        0x1AC0_2400 => read::two_source(TwoSourceOp::ShiftRight, word),
-        0x1AC0_2800 => read::two_source(TwoSourceOp::ShiftRightSigned, word),
-        0x1AC0_2C00 => read::two_source(TwoSourceOp::RotateRight, word),
-        _ => None,
-    }
+    read::two_source(two_source_op(word)?, word)
 }
 
 /// Reversals and counts.
@@ -159,7 +154,7 @@ fn reverse_bytes(word: u32) -> Option<Instr>
 }
 
 /// Multiplications.
-fn three_source(word: u32) -> Option<Instr>
+pub fn three_source(word: u32) -> Option<Instr>
     requires { bit_and word 0x1F00_0000 ≡ 0x1B00_0000 }
     ensures row { result ≡ row word }
     ensures widths { IfSome result HasWidths }

@@ -6,36 +6,8 @@ ghost use Rattle.a64_model.specs.Widths.{HasWidths};
 use a64_model::instr::Instr;
 use a64_model::read::immediates as read;
 
-/// Data processing with immediates.
-pub fn immediate(word: u32) -> Option<Instr>
-    requires { bit_and word 0x1C00_0000 ≡ 0x1000_0000 }
-    ensures row { result ≡ row word }
-    ensures widths { IfSome result HasWidths }
-{
-    match word & 0x1F00_0000 {
-        0x1000_0000 => pc_relative(word),
-        0x1100_0000 => add_immediate(word),
-        0x1200_0000 => logical_or_move(word),
-        0x1300_0000 => bitfield_or_extract(word),
-        _ => None,
-    }
-}
-
-/// ADR and ADRP.
-fn pc_relative(word: u32) -> Option<Instr>
-    requires { bit_and word 0x1F00_0000 ≡ 0x1000_0000 }
-    ensures row { result ≡ row word }
-    ensures widths { IfSome result HasWidths }
-{
-    match word & 0x9F00_0000 {
-        0x1000_0000 => read::pc_relative(false, word),
-        0x9000_0000 => read::pc_relative(true, word),
-        _ => None,
-    }
-}
-
 /// Additions of an immediate. The other half has the tags of addresses, which have no row.
-fn add_immediate(word: u32) -> Option<Instr>
+pub fn add_immediate(word: u32) -> Option<Instr>
     requires { bit_and word 0x1F00_0000 ≡ 0x1100_0000 }
     ensures row { result ≡ row word }
     ensures widths { IfSome result HasWidths }
@@ -47,7 +19,7 @@ fn add_immediate(word: u32) -> Option<Instr>
 }
 
 /// Logical operations with an immediate, and moves of a wide one.
-fn logical_or_move(word: u32) -> Option<Instr>
+pub fn logical_or_move(word: u32) -> Option<Instr>
     requires { bit_and word 0x1F00_0000 ≡ 0x1200_0000 }
     ensures row { result ≡ row word }
     ensures widths { IfSome result HasWidths }
@@ -60,7 +32,7 @@ fn logical_or_move(word: u32) -> Option<Instr>
 }
 
 /// Bitfields, and EXTR.
-fn bitfield_or_extract(word: u32) -> Option<Instr>
+pub fn bitfield_or_extract(word: u32) -> Option<Instr>
     requires { bit_and word 0x1F00_0000 ≡ 0x1300_0000 }
     ensures row { result ≡ row word }
     ensures widths { IfSome result HasWidths }

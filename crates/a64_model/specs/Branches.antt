@@ -4,6 +4,7 @@ use Rattle.a64_model.specs.Bits.{bits}
 use Rattle.a64_model.specs.Operands.{reg, width, condition}
 use Rattle.a64_model.specs.declared.instr.Instr.{Instr}
 use Rattle.a64_model.specs.declared.instr.Instr.TheVariants as instr
+use Rattle.a64_model.specs.declared.instr.TheConstants.{WORD_ALIGNED}
 use Rattle.a64_model.specs.declared.operands.BranchKind.{BranchKind}
 
 -- Unconditional branch (immediate): B, BL. imm26 25 to 0
@@ -36,6 +37,7 @@ compare_branch nonzero word =
 abbrev pub test_branch : Bool → ℕ → Option Instr
 test_branch set word =
     Some (instr.TestBranch (record {
+      aligned = WORD_ALIGNED;
       set = set;
       bit_number = bits word 31 31 * 32 + bits word 23 19;
       imm14 = bits word 18 5;
@@ -44,12 +46,12 @@ test_branch set word =
 
 -- Unconditional branch (register): BR, BLR, RET
 abbrev pub branch_register : BranchKind → ℕ → Option Instr
-branch_register kind word = Some (instr.BranchRegister (record { kind = kind; rn = reg word 5 }))
+branch_register kind word = Some (instr.BranchRegister (record { aligned = WORD_ALIGNED; kind = kind; rn = reg word 5 }))
 
 -- System register move: MRS of TPIDR_EL0
 abbrev pub read_thread_pointer : ℕ → Option Instr
-read_thread_pointer word = Some (instr.ReadThreadPointer (record { rt = reg word 0 }))
+read_thread_pointer word = Some (instr.ReadThreadPointer (record { aligned = WORD_ALIGNED; rt = reg word 0 }))
 
 -- System register move: MSR of TPIDR_EL0
 abbrev pub write_thread_pointer : ℕ → Option Instr
-write_thread_pointer word = Some (instr.WriteThreadPointer (record { rt = reg word 0 }))
+write_thread_pointer word = Some (instr.WriteThreadPointer (record { aligned = WORD_ALIGNED; rt = reg word 0 }))

@@ -5,6 +5,7 @@ use Rattle.a64_model.specs.Bits.{bit, bits}
 use Rattle.a64_model.specs.Operands.{reg, width, width_bits, add_op, logical_op, shift, extend, condition}
 use Rattle.a64_model.specs.declared.instr.Instr.{Instr}
 use Rattle.a64_model.specs.declared.instr.Instr.TheVariants as instr
+use Rattle.a64_model.specs.declared.instr.TheConstants.{WORD_ALIGNED}
 use Rattle.a64_model.specs.declared.operands.AddOp.{AddOp}
 use Rattle.a64_model.specs.declared.operands.Comparand.{Comparand}
 use Rattle.a64_model.specs.declared.operands.Comparand.TheVariants as comparand
@@ -18,6 +19,7 @@ abbrev pub logical_shifted : ℕ → Option Instr
 logical_shifted word =
     if nat_lt (bits word 15 10) (width_bits (width word))
     then Some (instr.LogicalShifted (record {
+      aligned = WORD_ALIGNED;
       width = width word;
       op = logical_op (bits word 30 29);
       invert = bit word 21;
@@ -35,6 +37,7 @@ abbrev pub add_shifted : ℕ → Option Instr
 add_shifted word =
     if not (bits word 23 22 == 3) && nat_lt (bits word 15 10) (width_bits (width word))
     then Some (instr.AddShifted (record {
+      aligned = WORD_ALIGNED;
       width = width word;
       op = add_op word;
       set_flags = bit word 29;
@@ -51,6 +54,7 @@ abbrev pub add_extended : ℕ → Option Instr
 add_extended word =
     if nat_le (bits word 12 10) 4
     then Some (instr.AddExtended (record {
+      aligned = WORD_ALIGNED;
       width = width word;
       op = add_op word;
       set_flags = bit word 29;
@@ -66,6 +70,7 @@ add_extended word =
 abbrev pub add_carry : ℕ → Option Instr
 add_carry word =
     Some (instr.AddCarry (record {
+      aligned = WORD_ALIGNED;
       width = width word;
       op = add_op word;
       set_flags = bit word 29;
@@ -78,6 +83,7 @@ add_carry word =
 abbrev pub conditional_compare : Comparand → ℕ → Option Instr
 conditional_compare operand word =
     Some (instr.ConditionalCompare (record {
+      aligned = WORD_ALIGNED;
       width = width word;
       op = add_op word;
       comparand = operand;
@@ -105,6 +111,7 @@ select_op invert increment =
 abbrev pub conditional_select : ℕ → Option Instr
 conditional_select word =
     Some (instr.ConditionalSelect (record {
+      aligned = WORD_ALIGNED;
       width = width word;
       op = select_op (bit word 30) (bit word 10);
       condition = condition (bits word 15 12);
@@ -117,6 +124,7 @@ conditional_select word =
 abbrev pub one_source : OneSourceOp → ℕ → Option Instr
 one_source op word =
     Some (instr.OneSource (record {
+      aligned = WORD_ALIGNED;
       width = width word;
       op = op;
       rn = reg word 5;
@@ -125,12 +133,13 @@ one_source op word =
 
 -- Data-processing (1 source): REV of 64 bits
 abbrev pub reverse_bytes : ℕ → Option Instr
-reverse_bytes word = Some (instr.ReverseBytes (record { rn = reg word 5; rd = reg word 0 }))
+reverse_bytes word = Some (instr.ReverseBytes (record { aligned = WORD_ALIGNED; rn = reg word 5; rd = reg word 0 }))
 
 -- Data-processing (2 source): UDIV, SDIV, LSLV, LSRV, ASRV, RORV
 abbrev pub two_source : TwoSourceOp → ℕ → Option Instr
 two_source op word =
     Some (instr.TwoSource (record {
+      aligned = WORD_ALIGNED;
       width = width word;
       op = op;
       rm = reg word 16;
@@ -142,6 +151,7 @@ two_source op word =
 abbrev pub multiply_add : AddOp → ℕ → Option Instr
 multiply_add op word =
     Some (instr.MultiplyAdd (record {
+      aligned = WORD_ALIGNED;
       width = width word;
       op = op;
       rm = reg word 16;
@@ -154,6 +164,7 @@ multiply_add op word =
 abbrev pub multiply_long : Bool → AddOp → ℕ → Option Instr
 multiply_long signed op word =
     Some (instr.MultiplyLong (record {
+      aligned = WORD_ALIGNED;
       signed = signed;
       op = op;
       rm = reg word 16;
@@ -166,6 +177,7 @@ multiply_long signed op word =
 abbrev pub multiply_high : Bool → ℕ → Option Instr
 multiply_high signed word =
     Some (instr.MultiplyHigh (record {
+      aligned = WORD_ALIGNED;
       signed = signed;
       rm = reg word 16;
       rn = reg word 5;

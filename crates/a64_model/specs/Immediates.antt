@@ -6,6 +6,7 @@ use Rattle.a64_model.specs.Operands.{reg, width, width_bits, add_op, logical_op}
 use Rattle.a64_model.specs.BitMasks.{is_pattern}
 use Rattle.a64_model.specs.declared.instr.Instr.{Instr}
 use Rattle.a64_model.specs.declared.instr.Instr.TheVariants as instr
+use Rattle.a64_model.specs.declared.instr.TheConstants.{WORD_ALIGNED}
 use Rattle.a64_model.specs.declared.operands.MoveWideOp.{MoveWideOp}
 use Rattle.a64_model.specs.declared.operands.MoveWideOp.TheVariants as moves
 use Rattle.a64_model.specs.declared.operands.BitfieldOp.{BitfieldOp}
@@ -24,6 +25,7 @@ pc_relative page word =
 abbrev pub add_immediate : ℕ → Option Instr
 add_immediate word =
     Some (instr.AddImmediate (record {
+      aligned = WORD_ALIGNED;
       width = width word;
       op = add_op word;
       set_flags = bit word 29;
@@ -40,6 +42,7 @@ logical_immediate word =
     let imms = bits word 15 10 in
     if is_pattern (width word) n imms
     then Some (instr.LogicalImmediate (record {
+      aligned = WORD_ALIGNED;
       width = width word;
       op = logical_op (bits word 30 29);
       n = n;
@@ -63,6 +66,7 @@ move_wide word =
     let hw = bits word 22 21 in
     if nat_lt (hw * 16) (width_bits (width word))
     then option_map (λ op. instr.MoveWide (record {
+      aligned = WORD_ALIGNED;
       width = width word;
       op = op;
       imm16 = bits word 20 5;
@@ -86,6 +90,7 @@ bitfield word =
     let imms = bits word 15 10 in
     if (bits word 22 22 == bits word 31 31) && nat_lt immr count && nat_lt imms count
     then option_map (λ op. instr.Bitfield (record {
+      aligned = WORD_ALIGNED;
       width = width word;
       op = op;
       immr = immr;
@@ -101,6 +106,7 @@ extract word =
     let imms = bits word 15 10 in
     if (bits word 22 22 == bits word 31 31) && nat_lt imms (width_bits (width word))
     then Some (instr.Extract (record {
+      aligned = WORD_ALIGNED;
       width = width word;
       imms = imms;
       rm = reg word 16;

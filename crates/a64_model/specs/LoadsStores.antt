@@ -6,6 +6,7 @@ use Rattle.a64_model.specs.Bits.{bit, bits}
 use Rattle.a64_model.specs.Operands.{reg, is_same, is_31, size, extend}
 use Rattle.a64_model.specs.declared.instr.Instr.{Instr}
 use Rattle.a64_model.specs.declared.instr.Instr.TheVariants as instr
+use Rattle.a64_model.specs.declared.instr.TheConstants.{WORD_ALIGNED}
 use Rattle.a64_model.specs.declared.operands.Reg.{Reg}
 use Rattle.a64_model.specs.declared.operands.Size.{Size}
 use Rattle.a64_model.specs.declared.operands.Size.TheVariants.{Byte, Half, Double}
@@ -57,6 +58,7 @@ abbrev pub load_store_unsigned : ℕ → Option Instr
 load_store_unsigned word =
     let s = size (bits word 31 30) in
     option_map (λ t. instr.LoadStoreUnsigned (record {
+      aligned = WORD_ALIGNED;
       size = s;
       transfer = t;
       imm12 = bits word 21 10;
@@ -70,6 +72,7 @@ load_store_indexed indexing word =
     let s = size (bits word 31 30) in
     if may_write_back indexing (reg word 5) (reg word 0)
     then option_map (λ t. instr.LoadStoreIndexed (record {
+      aligned = WORD_ALIGNED;
       imm9 = bits word 20 12;
       size = s;
       transfer = t;
@@ -86,6 +89,7 @@ load_store_register word =
     let s = size (bits word 31 30) in
     if bit word 14
     then option_map (λ t. instr.LoadStoreRegister (record {
+      aligned = WORD_ALIGNED;
       size = s;
       transfer = t;
       extend = extend (bits word 15 13);
@@ -133,6 +137,7 @@ load_store_pair indexing word =
     let load = bit word 22 in
     if may_write_back indexing rn rt && may_write_back indexing rn rt2 && may_pair load rt rt2
     then option_map (λ kind. instr.LoadStorePair (record {
+      aligned = WORD_ALIGNED;
       kind = kind;
       load = load;
       indexing = indexing;
@@ -153,6 +158,7 @@ abbrev pub store_exclusive : ℕ → Option Instr
 store_exclusive word =
     if may_take_status (reg word 16) (reg word 0) (reg word 5)
     then Some (instr.StoreExclusive (record {
+      aligned = WORD_ALIGNED;
       size = size (bits word 31 30);
       rs = reg word 16;
       rn = reg word 5;
@@ -164,6 +170,7 @@ store_exclusive word =
 abbrev pub load_exclusive : ℕ → Option Instr
 load_exclusive word =
     Some (instr.LoadExclusive (record {
+      aligned = WORD_ALIGNED;
       size = size (bits word 31 30);
       rn = reg word 5;
       rt = reg word 0;
@@ -173,6 +180,7 @@ load_exclusive word =
 abbrev pub store_ordered : ℕ → Option Instr
 store_ordered word =
     Some (instr.StoreOrdered (record {
+      aligned = WORD_ALIGNED;
       size = size (bits word 31 30);
       rn = reg word 5;
       rt = reg word 0;
@@ -182,6 +190,7 @@ store_ordered word =
 abbrev pub load_ordered : ℕ → Option Instr
 load_ordered word =
     Some (instr.LoadOrdered (record {
+      aligned = WORD_ALIGNED;
       size = size (bits word 31 30);
       rn = reg word 5;
       rt = reg word 0;
@@ -191,6 +200,7 @@ load_ordered word =
 abbrev pub compare_swap : ℕ → Option Instr
 compare_swap word =
     Some (instr.CompareSwap (record {
+      aligned = WORD_ALIGNED;
       size = size (bits word 31 30);
       rs = reg word 16;
       rn = reg word 5;
@@ -201,6 +211,7 @@ compare_swap word =
 abbrev pub atomic : AtomicOp → ℕ → Option Instr
 atomic op word =
     Some (instr.Atomic (record {
+      aligned = WORD_ALIGNED;
       size = size (bits word 31 30);
       op = op;
       rs = reg word 16;

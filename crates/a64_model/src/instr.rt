@@ -1,13 +1,23 @@
 //! The instructions: one variant for each row class, with its fields. `rd` and `rt` are the registers written (or
 //! stored), `rn` the first source or the base, `rm` the second source, `ra` the addend, `rs` the register of an
 //! exclusive or atomic access, `rt2` the second of a pair. An immediate `immN` is the field of N bits as it stands in the
-//! word. The larger fields stand first, since an instruction is moved about often and is to be small: 12 bytes.
+//! word. An instruction is 12 bytes: its variant and two words of fields.
 
 use crate::operands::{
     AddOp, AtomicOp, BitfieldOp, BranchKind, Comparand, Condition, Extend, Indexing, LiteralKind,
     LogicalOp, MoveWideOp, OneSourceOp, PairKind, Reg, SelectOp, ShiftKind, Size, Transfer,
     TwoSourceOp, Width,
 };
+
+/// Lets the fields of a row begin at a multiple of 4 bytes, and takes no space. So the fields of all rows lie in the same
+/// two words of an instruction, which a compiler moves as words.
+#[derive(Clone, Copy)]
+pub struct WordAligned {
+    words: [u32; 0],
+}
+
+/// The one value of its type.
+pub const WORD_ALIGNED: WordAligned = WordAligned { words: [] };
 
 // Data processing -- immediate
 
@@ -22,6 +32,7 @@ pub struct PcRelative {
 /// ADD, ADDS, SUB and SUBS (immediate). The immediate may be shifted left by 12.
 #[derive(Clone, Copy)]
 pub struct AddImmediate {
+    pub aligned: WordAligned,
     pub width: Width,
     pub op: AddOp,
     pub set_flags: bool,
@@ -34,6 +45,7 @@ pub struct AddImmediate {
 /// AND, ORR, EOR and ANDS (immediate). N, immr and imms are those of a pattern of bits.
 #[derive(Clone, Copy)]
 pub struct LogicalImmediate {
+    pub aligned: WordAligned,
     pub width: Width,
     pub op: LogicalOp,
     pub n: u8,
@@ -46,6 +58,7 @@ pub struct LogicalImmediate {
 /// MOVN, MOVZ and MOVK. The immediate stands at bit 16 times `hw`.
 #[derive(Clone, Copy)]
 pub struct MoveWide {
+    pub aligned: WordAligned,
     pub width: Width,
     pub op: MoveWideOp,
     pub imm16: u16,
@@ -56,6 +69,7 @@ pub struct MoveWide {
 /// SBFM, BFM and UBFM.
 #[derive(Clone, Copy)]
 pub struct Bitfield {
+    pub aligned: WordAligned,
     pub width: Width,
     pub op: BitfieldOp,
     pub immr: u8,
@@ -67,6 +81,7 @@ pub struct Bitfield {
 /// EXTR.
 #[derive(Clone, Copy)]
 pub struct Extract {
+    pub aligned: WordAligned,
     pub width: Width,
     pub imms: u8,
     pub rm: Reg,
@@ -102,6 +117,7 @@ pub struct CompareBranch {
 /// TBZ, and TBNZ, which branches where the bit is set. The immediate is signed and counts instructions.
 #[derive(Clone, Copy)]
 pub struct TestBranch {
+    pub aligned: WordAligned,
     pub set: bool,
     pub bit_number: u8,
     pub imm14: u16,
@@ -111,6 +127,7 @@ pub struct TestBranch {
 /// BR, BLR and RET.
 #[derive(Clone, Copy)]
 pub struct BranchRegister {
+    pub aligned: WordAligned,
     pub kind: BranchKind,
     pub rn: Reg,
 }
@@ -118,12 +135,14 @@ pub struct BranchRegister {
 /// MRS of TPIDR_EL0.
 #[derive(Clone, Copy)]
 pub struct ReadThreadPointer {
+    pub aligned: WordAligned,
     pub rt: Reg,
 }
 
 /// MSR of TPIDR_EL0.
 #[derive(Clone, Copy)]
 pub struct WriteThreadPointer {
+    pub aligned: WordAligned,
     pub rt: Reg,
 }
 
@@ -132,6 +151,7 @@ pub struct WriteThreadPointer {
 /// AND, BIC, ORR, ORN, EOR, EON, ANDS and BICS (shifted register).
 #[derive(Clone, Copy)]
 pub struct LogicalShifted {
+    pub aligned: WordAligned,
     pub width: Width,
     pub op: LogicalOp,
     pub invert: bool,
@@ -145,6 +165,7 @@ pub struct LogicalShifted {
 /// ADD, ADDS, SUB and SUBS (shifted register). The shift is no rotation.
 #[derive(Clone, Copy)]
 pub struct AddShifted {
+    pub aligned: WordAligned,
     pub width: Width,
     pub op: AddOp,
     pub set_flags: bool,
@@ -158,6 +179,7 @@ pub struct AddShifted {
 /// ADD, ADDS, SUB and SUBS (extended register). The extended register is shifted left by the amount.
 #[derive(Clone, Copy)]
 pub struct AddExtended {
+    pub aligned: WordAligned,
     pub width: Width,
     pub op: AddOp,
     pub set_flags: bool,
@@ -171,6 +193,7 @@ pub struct AddExtended {
 /// ADC, ADCS, SBC and SBCS.
 #[derive(Clone, Copy)]
 pub struct AddCarry {
+    pub aligned: WordAligned,
     pub width: Width,
     pub op: AddOp,
     pub set_flags: bool,
@@ -182,6 +205,7 @@ pub struct AddCarry {
 /// CCMN (an addition) and CCMP (a subtraction). Where the condition fails the flags become `nzcv`.
 #[derive(Clone, Copy)]
 pub struct ConditionalCompare {
+    pub aligned: WordAligned,
     pub width: Width,
     pub op: AddOp,
     pub comparand: Comparand,
@@ -193,6 +217,7 @@ pub struct ConditionalCompare {
 /// CSEL, CSINC, CSINV and CSNEG.
 #[derive(Clone, Copy)]
 pub struct ConditionalSelect {
+    pub aligned: WordAligned,
     pub width: Width,
     pub op: SelectOp,
     pub condition: Condition,
@@ -204,6 +229,7 @@ pub struct ConditionalSelect {
 /// RBIT, REV16, REV32, CLZ and CLS.
 #[derive(Clone, Copy)]
 pub struct OneSource {
+    pub aligned: WordAligned,
     pub width: Width,
     pub op: OneSourceOp,
     pub rn: Reg,
@@ -213,6 +239,7 @@ pub struct OneSource {
 /// REV of an X register.
 #[derive(Clone, Copy)]
 pub struct ReverseBytes {
+    pub aligned: WordAligned,
     pub rn: Reg,
     pub rd: Reg,
 }
@@ -220,6 +247,7 @@ pub struct ReverseBytes {
 /// UDIV, SDIV, LSLV, LSRV, ASRV and RORV.
 #[derive(Clone, Copy)]
 pub struct TwoSource {
+    pub aligned: WordAligned,
     pub width: Width,
     pub op: TwoSourceOp,
     pub rm: Reg,
@@ -230,6 +258,7 @@ pub struct TwoSource {
 /// MADD and MSUB.
 #[derive(Clone, Copy)]
 pub struct MultiplyAdd {
+    pub aligned: WordAligned,
     pub width: Width,
     pub op: AddOp,
     pub rm: Reg,
@@ -241,6 +270,7 @@ pub struct MultiplyAdd {
 /// SMADDL, SMSUBL, UMADDL and UMSUBL.
 #[derive(Clone, Copy)]
 pub struct MultiplyLong {
+    pub aligned: WordAligned,
     pub signed: bool,
     pub op: AddOp,
     pub rm: Reg,
@@ -252,6 +282,7 @@ pub struct MultiplyLong {
 /// SMULH and UMULH.
 #[derive(Clone, Copy)]
 pub struct MultiplyHigh {
+    pub aligned: WordAligned,
     pub signed: bool,
     pub rm: Reg,
     pub rn: Reg,
@@ -264,6 +295,7 @@ pub struct MultiplyHigh {
 /// this size.
 #[derive(Clone, Copy)]
 pub struct LoadStoreUnsigned {
+    pub aligned: WordAligned,
     pub size: Size,
     pub transfer: Transfer,
     pub imm12: u16,
@@ -275,6 +307,7 @@ pub struct LoadStoreUnsigned {
 /// and counts bytes.
 #[derive(Clone, Copy)]
 pub struct LoadStoreIndexed {
+    pub aligned: WordAligned,
     pub imm9: u16,
     pub size: Size,
     pub transfer: Transfer,
@@ -286,6 +319,7 @@ pub struct LoadStoreIndexed {
 /// LDR, PRFM, STR and their kin (register offset). The extended register may count accesses of this size.
 #[derive(Clone, Copy)]
 pub struct LoadStoreRegister {
+    pub aligned: WordAligned,
     pub size: Size,
     pub transfer: Transfer,
     pub extend: Extend,
@@ -306,6 +340,7 @@ pub struct LoadLiteral {
 /// LDP, LDPSW and STP. The immediate is signed and counts registers.
 #[derive(Clone, Copy)]
 pub struct LoadStorePair {
+    pub aligned: WordAligned,
     pub kind: PairKind,
     pub load: bool,
     pub indexing: Indexing,
@@ -318,6 +353,7 @@ pub struct LoadStorePair {
 /// STXR, STLXR and their kin.
 #[derive(Clone, Copy)]
 pub struct StoreExclusive {
+    pub aligned: WordAligned,
     pub size: Size,
     pub rs: Reg,
     pub rn: Reg,
@@ -327,6 +363,7 @@ pub struct StoreExclusive {
 /// LDXR, LDAXR and their kin.
 #[derive(Clone, Copy)]
 pub struct LoadExclusive {
+    pub aligned: WordAligned,
     pub size: Size,
     pub rn: Reg,
     pub rt: Reg,
@@ -335,6 +372,7 @@ pub struct LoadExclusive {
 /// STLR, STLRB and STLRH.
 #[derive(Clone, Copy)]
 pub struct StoreOrdered {
+    pub aligned: WordAligned,
     pub size: Size,
     pub rn: Reg,
     pub rt: Reg,
@@ -343,6 +381,7 @@ pub struct StoreOrdered {
 /// LDAR, LDARB and LDARH.
 #[derive(Clone, Copy)]
 pub struct LoadOrdered {
+    pub aligned: WordAligned,
     pub size: Size,
     pub rn: Reg,
     pub rt: Reg,
@@ -351,6 +390,7 @@ pub struct LoadOrdered {
 /// CAS, CASA, CASL, CASAL and their kin.
 #[derive(Clone, Copy)]
 pub struct CompareSwap {
+    pub aligned: WordAligned,
     pub size: Size,
     pub rs: Reg,
     pub rn: Reg,
@@ -360,6 +400,7 @@ pub struct CompareSwap {
 /// LDADD, LDCLR, LDEOR, LDSET, SWP and their kin.
 #[derive(Clone, Copy)]
 pub struct Atomic {
+    pub aligned: WordAligned,
     pub size: Size,
     pub op: AtomicOp,
     pub rs: Reg,

@@ -11,7 +11,6 @@ use crate::numbers::eight_bytes;
 use crate::stacks::{is_on, stack_flags};
 use a64_model::regs::Regs;
 use arrayvec::ArrayVec;
-use linux_abi::LinuxSig;
 use linux_abi::signals::{SA_NODEFER, SA_ONSTACK, SA_RESTORER, SA_SIGINFO};
 use lx_machine::refusal::LxRefusal;
 use lx_machine::signals::{Action, Origin, SigInfo, Taken};

@@ -6,12 +6,12 @@ ghost use Rattle.lx_machine.specs.declared.files.FileKind.TheVariants as kind;
 ghost use Rattle.lx_files.specs.Files.{held_in};
 ghost use Rattle.lx_transfers.specs.Transfers.{outcome, waits, ends_with, with_counter, console_holds, count, goes_in, wrote, write_waits, breaks, write_pipe, into_console, write_console, write_counter, write_move, Makes};
 
-use crate::transfers::{end_refused, end_with, finish, set_counter, wait};
+use crate::transfers::{end_refused, end_with, set_counter, wait};
 use crate::vectors::number;
 use linux_abi::{LinuxErrno, answer};
 use lx_files::files::{has_reader, place_at};
 use lx_files::interests::arm_on;
-use lx_machine::buffer::{Bytes, NoMemory, ROOM, Room};
+use lx_machine::buffer::{Bytes, NoMemory, Room};
 use lx_machine::calls::LxCall;
 use lx_machine::files::{Counter, FileKind, Files, OpenFile};
 use lx_machine::label::LxSide;

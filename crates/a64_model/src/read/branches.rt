@@ -7,7 +7,7 @@ use super::operands::{condition, reg, width};
 use crate::bits::bits;
 use crate::instr::{
     Branch, BranchConditional, BranchRegister, CompareBranch, Instr, ReadThreadPointer, TestBranch,
-    WriteThreadPointer,
+    WORD_ALIGNED, WriteThreadPointer,
 };
 use crate::operands::BranchKind;
 
@@ -49,6 +49,7 @@ pub fn test_branch(set: bool, word: u32) -> Option<Instr>
 {
     let bit_number = (bits(word, 31, 31) * 32 + bits(word, 23, 19)) as u8;
     Some(Instr::TestBranch(TestBranch {
+        aligned: WORD_ALIGNED,
         set,
         bit_number,
         imm14: bits(word, 18, 5) as u16,
@@ -61,6 +62,7 @@ pub fn branch_register(kind: BranchKind, word: u32) -> Option<Instr>
     ensures widths { IfSome result HasWidths }
 {
     Some(Instr::BranchRegister(BranchRegister {
+        aligned: WORD_ALIGNED,
         kind,
         rn: reg(word, 5),
     }))
@@ -70,12 +72,18 @@ pub fn read_thread_pointer(word: u32) -> Option<Instr>
     ensures value { result ≡ read_thread_pointer word }
     ensures widths { IfSome result HasWidths }
 {
-    Some(Instr::ReadThreadPointer(ReadThreadPointer { rt: reg(word, 0) }))
+    Some(Instr::ReadThreadPointer(ReadThreadPointer {
+        aligned: WORD_ALIGNED,
+        rt: reg(word, 0),
+    }))
 }
 
 pub fn write_thread_pointer(word: u32) -> Option<Instr>
     ensures value { result ≡ write_thread_pointer word }
     ensures widths { IfSome result HasWidths }
 {
-    Some(Instr::WriteThreadPointer(WriteThreadPointer { rt: reg(word, 0) }))
+    Some(Instr::WriteThreadPointer(WriteThreadPointer {
+        aligned: WORD_ALIGNED,
+        rt: reg(word, 0),
+    }))
 }

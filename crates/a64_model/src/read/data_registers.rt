@@ -8,6 +8,7 @@ use crate::bits::{bit, bits};
 use crate::instr::{
     AddCarry, AddExtended, AddShifted, ConditionalCompare, ConditionalSelect, Instr,
     LogicalShifted, MultiplyAdd, MultiplyHigh, MultiplyLong, OneSource, ReverseBytes, TwoSource,
+    WORD_ALIGNED,
 };
 use crate::operands::{AddOp, Comparand, OneSourceOp, SelectOp, TwoSourceOp};
 
@@ -21,6 +22,7 @@ pub fn logical_shifted(word: u32) -> Option<Instr>
         return None;
     }
     Some(Instr::LogicalShifted(LogicalShifted {
+        aligned: WORD_ALIGNED,
         width,
         op: logical_op(bits(word, 30, 29)),
         invert: bit(word, 21),
@@ -39,10 +41,11 @@ pub fn add_shifted(word: u32) -> Option<Instr>
     let width = width(word);
     let kind = bits(word, 23, 22);
     let amount = bits(word, 15, 10);
-    if kind == 3 || amount >= width_bits(width) {
+    if (kind == 3) | (amount >= width_bits(width)) {
         return None;
     }
     Some(Instr::AddShifted(AddShifted {
+        aligned: WORD_ALIGNED,
         width,
         op: add_op(word),
         set_flags: bit(word, 29),
@@ -63,6 +66,7 @@ pub fn add_extended(word: u32) -> Option<Instr>
         return None;
     }
     Some(Instr::AddExtended(AddExtended {
+        aligned: WORD_ALIGNED,
         width: width(word),
         op: add_op(word),
         set_flags: bit(word, 29),
@@ -79,6 +83,7 @@ pub fn add_carry(word: u32) -> Option<Instr>
     ensures widths { IfSome result HasWidths }
 {
     Some(Instr::AddCarry(AddCarry {
+        aligned: WORD_ALIGNED,
         width: width(word),
         op: add_op(word),
         set_flags: bit(word, 29),
@@ -95,6 +100,7 @@ fn conditional_compare(comparand: Comparand, word: u32) -> Option<Instr>
     ensures widths { IfSome result HasWidths }
 {
     Some(Instr::ConditionalCompare(ConditionalCompare {
+        aligned: WORD_ALIGNED,
         width: width(word),
         op: add_op(word),
         comparand,
@@ -134,6 +140,7 @@ pub fn conditional_select(word: u32) -> Option<Instr>
     ensures widths { IfSome result HasWidths }
 {
     Some(Instr::ConditionalSelect(ConditionalSelect {
+        aligned: WORD_ALIGNED,
         width: width(word),
         op: select_op(bit(word, 30), bit(word, 10)),
         condition: condition(bits(word, 15, 12)),
@@ -148,6 +155,7 @@ pub fn one_source(op: OneSourceOp, word: u32) -> Option<Instr>
     ensures widths { IfSome result HasWidths }
 {
     Some(Instr::OneSource(OneSource {
+        aligned: WORD_ALIGNED,
         width: width(word),
         op,
         rn: reg(word, 5),
@@ -160,6 +168,7 @@ pub fn reverse_bytes(word: u32) -> Option<Instr>
     ensures widths { IfSome result HasWidths }
 {
     Some(Instr::ReverseBytes(ReverseBytes {
+        aligned: WORD_ALIGNED,
         rn: reg(word, 5),
         rd: reg(word, 0),
     }))
@@ -170,6 +179,7 @@ pub fn two_source(op: TwoSourceOp, word: u32) -> Option<Instr>
     ensures widths { IfSome result HasWidths }
 {
     Some(Instr::TwoSource(TwoSource {
+        aligned: WORD_ALIGNED,
         width: width(word),
         op,
         rm: reg(word, 16),
@@ -183,6 +193,7 @@ pub fn multiply_add(op: AddOp, word: u32) -> Option<Instr>
     ensures widths { IfSome result HasWidths }
 {
     Some(Instr::MultiplyAdd(MultiplyAdd {
+        aligned: WORD_ALIGNED,
         width: width(word),
         op,
         rm: reg(word, 16),
@@ -197,6 +208,7 @@ pub fn multiply_long(signed: bool, op: AddOp, word: u32) -> Option<Instr>
     ensures widths { IfSome result HasWidths }
 {
     Some(Instr::MultiplyLong(MultiplyLong {
+        aligned: WORD_ALIGNED,
         signed,
         op,
         rm: reg(word, 16),
@@ -211,6 +223,7 @@ pub fn multiply_high(signed: bool, word: u32) -> Option<Instr>
     ensures widths { IfSome result HasWidths }
 {
     Some(Instr::MultiplyHigh(MultiplyHigh {
+        aligned: WORD_ALIGNED,
         signed,
         rm: reg(word, 16),
         rn: reg(word, 5),

@@ -7,7 +7,7 @@ ghost use Rattle.a64_model.specs.Widths.{HasWidths};
 use super::operands::{add_op, logical_op, reg, width, width_bits};
 use crate::bits::{bit, bits};
 use crate::instr::{
-    AddImmediate, Bitfield, Extract, Instr, LogicalImmediate, MoveWide, PcRelative,
+    AddImmediate, Bitfield, Extract, Instr, LogicalImmediate, MoveWide, PcRelative, WORD_ALIGNED,
 };
 use crate::operands::{BitfieldOp, MoveWideOp, Width};
 
@@ -27,6 +27,7 @@ pub fn add_immediate(word: u32) -> Option<Instr>
     ensures widths { IfSome result HasWidths }
 {
     Some(Instr::AddImmediate(AddImmediate {
+        aligned: WORD_ALIGNED,
         width: width(word),
         op: add_op(word),
         set_flags: bit(word, 29),
@@ -62,6 +63,7 @@ pub fn logical_immediate(word: u32) -> Option<Instr>
         return None;
     }
     Some(Instr::LogicalImmediate(LogicalImmediate {
+        aligned: WORD_ALIGNED,
         width,
         op: logical_op(bits(word, 30, 29)),
         n: n as u8,
@@ -94,6 +96,7 @@ pub fn move_wide(word: u32) -> Option<Instr>
     }
     let op = move_wide_op(bits(word, 30, 29))?;
     Some(Instr::MoveWide(MoveWide {
+        aligned: WORD_ALIGNED,
         width,
         op,
         imm16: bits(word, 20, 5) as u16,
@@ -120,14 +123,15 @@ pub fn bitfield(word: u32) -> Option<Instr>
     let width = width(word);
     let immr = bits(word, 21, 16);
     let imms = bits(word, 15, 10);
-    if bits(word, 22, 22) != bits(word, 31, 31)
-        || immr >= width_bits(width)
-        || imms >= width_bits(width)
+    if (bits(word, 22, 22) != bits(word, 31, 31))
+        | (immr >= width_bits(width))
+        | (imms >= width_bits(width))
     {
         return None;
     }
     let op = bitfield_op(bits(word, 30, 29))?;
     Some(Instr::Bitfield(Bitfield {
+        aligned: WORD_ALIGNED,
         width,
         op,
         immr: immr as u8,
@@ -143,10 +147,11 @@ pub fn extract(word: u32) -> Option<Instr>
 {
     let width = width(word);
     let imms = bits(word, 15, 10);
-    if bits(word, 22, 22) != bits(word, 31, 31) || imms >= width_bits(width) {
+    if (bits(word, 22, 22) != bits(word, 31, 31)) | (imms >= width_bits(width)) {
         return None;
     }
     Some(Instr::Extract(Extract {
+        aligned: WORD_ALIGNED,
         width,
         imms: imms as u8,
         rm: reg(word, 16),

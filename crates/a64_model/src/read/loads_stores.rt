@@ -9,6 +9,7 @@ use crate::bits::{bit, bits};
 use crate::instr::{
     Atomic, CompareSwap, Instr, LoadExclusive, LoadLiteral, LoadOrdered, LoadStoreIndexed,
     LoadStorePair, LoadStoreRegister, LoadStoreUnsigned, StoreExclusive, StoreOrdered,
+    WORD_ALIGNED,
 };
 use crate::operands::{AtomicOp, Indexing, LiteralKind, PairKind, Reg, Size, Transfer};
 
@@ -65,6 +66,7 @@ pub fn load_store_unsigned(word: u32) -> Option<Instr>
     let size = size(bits(word, 31, 30));
     let transfer = transfer(size, bits(word, 23, 22), true)?;
     Some(Instr::LoadStoreUnsigned(LoadStoreUnsigned {
+        aligned: WORD_ALIGNED,
         size,
         transfer,
         imm12: bits(word, 21, 10) as u16,
@@ -85,6 +87,7 @@ pub fn load_store_indexed(indexing: Indexing, word: u32) -> Option<Instr>
     let size = size(bits(word, 31, 30));
     let transfer = transfer(size, bits(word, 23, 22), is_offset(indexing))?;
     Some(Instr::LoadStoreIndexed(LoadStoreIndexed {
+        aligned: WORD_ALIGNED,
         imm9: bits(word, 20, 12) as u16,
         size,
         transfer,
@@ -104,6 +107,7 @@ pub fn load_store_register(word: u32) -> Option<Instr>
     let size = size(bits(word, 31, 30));
     let transfer = transfer(size, bits(word, 23, 22), true)?;
     Some(Instr::LoadStoreRegister(LoadStoreRegister {
+        aligned: WORD_ALIGNED,
         size,
         transfer,
         extend: extend(bits(word, 15, 13)),
@@ -163,14 +167,15 @@ pub fn load_store_pair(indexing: Indexing, word: u32) -> Option<Instr>
     let rn = reg(word, 5);
     let rt = reg(word, 0);
     let rt2 = reg(word, 10);
-    if !may_write_back(indexing, rn, rt)
-        || !may_write_back(indexing, rn, rt2)
-        || !may_pair(load, rt, rt2)
+    if !(may_write_back(indexing, rn, rt)
+        & may_write_back(indexing, rn, rt2)
+        & may_pair(load, rt, rt2))
     {
         return None;
     }
     let kind = pair_kind(bits(word, 31, 30), load)?;
     Some(Instr::LoadStorePair(LoadStorePair {
+        aligned: WORD_ALIGNED,
         kind,
         load,
         indexing,
@@ -199,6 +204,7 @@ pub fn store_exclusive(word: u32) -> Option<Instr>
         return None;
     }
     Some(Instr::StoreExclusive(StoreExclusive {
+        aligned: WORD_ALIGNED,
         size: size(bits(word, 31, 30)),
         rs,
         rn,
@@ -211,6 +217,7 @@ pub fn load_exclusive(word: u32) -> Option<Instr>
     ensures widths { IfSome result HasWidths }
 {
     Some(Instr::LoadExclusive(LoadExclusive {
+        aligned: WORD_ALIGNED,
         size: size(bits(word, 31, 30)),
         rn: reg(word, 5),
         rt: reg(word, 0),
@@ -222,6 +229,7 @@ pub fn store_ordered(word: u32) -> Option<Instr>
     ensures widths { IfSome result HasWidths }
 {
     Some(Instr::StoreOrdered(StoreOrdered {
+        aligned: WORD_ALIGNED,
         size: size(bits(word, 31, 30)),
         rn: reg(word, 5),
         rt: reg(word, 0),
@@ -233,6 +241,7 @@ pub fn load_ordered(word: u32) -> Option<Instr>
     ensures widths { IfSome result HasWidths }
 {
     Some(Instr::LoadOrdered(LoadOrdered {
+        aligned: WORD_ALIGNED,
         size: size(bits(word, 31, 30)),
         rn: reg(word, 5),
         rt: reg(word, 0),
@@ -244,6 +253,7 @@ pub fn compare_swap(word: u32) -> Option<Instr>
     ensures widths { IfSome result HasWidths }
 {
     Some(Instr::CompareSwap(CompareSwap {
+        aligned: WORD_ALIGNED,
         size: size(bits(word, 31, 30)),
         rs: reg(word, 16),
         rn: reg(word, 5),
@@ -256,6 +266,7 @@ pub fn atomic(op: AtomicOp, word: u32) -> Option<Instr>
     ensures widths { IfSome result HasWidths }
 {
     Some(Instr::Atomic(Atomic {
+        aligned: WORD_ALIGNED,
         size: size(bits(word, 31, 30)),
         op,
         rs: reg(word, 16),

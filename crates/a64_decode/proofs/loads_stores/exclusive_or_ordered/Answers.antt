@@ -4,4 +4,4 @@ use Rattle.a64_decode.proofs.loads_stores.exclusive_or_ordered.Goals as goal
 
 pub returns-in_default-clause-row : goal.returns-in_default-clause-row
 returns-in_default-clause-row c =
-    no_row (Is 0x3E00_0000 0x0800_0000 ∷ IsNone 0x3FA0_0000 (0x0800_0000 ∷ 0x0880_0000 ∷ 0x08A0_0000 ∷ []) ∷ []) c.args.word (search rules) refl
+    no_row (Is 0x3F00_0000 0x0800_0000 ∷ IsNone 0x3FA0_0000 (0x0800_0000 ∷ 0x0880_0000 ∷ 0x08A0_0000 ∷ []) ∷ []) c.args.word (search rules) refl

@@ -1,7 +1,0 @@
-use Rattle.std.proofs.Common.{refl, rules, [], ◌∷◌}
-use Rattle.a64_decode.proofs.Rows.{no_row, Is, IsNone}
-use Rattle.a64_decode.proofs.branches.conditional_or_system.Goals as goal
-
-pub returns-in_default-clause-row : goal.returns-in_default-clause-row
-returns-in_default-clause-row c =
-    no_row (Is 0x7C00_0000 0x5400_0000 ∷ IsNone 0xFF00_0000 (0x5400_0000 ∷ 0xD400_0000 ∷ 0xD500_0000 ∷ 0xD600_0000 ∷ []) ∷ []) c.args.word (search rules) refl
