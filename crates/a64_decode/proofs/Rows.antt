@@ -98,10 +98,13 @@ decided m v word (r ∷ rows) e h =
     ap (λ b. cond b (Some r) (find (fits word) rows)) (decided_row m v word r e parts.0)
     ∙ ap (λ o. cond (fits v r) (Some r) o) (decided m v word rows e parts.1)
 
--- where the bits under m decide each row of the table, a word with the value v there has the form of v
-pub form_at : (m v word : ℕ) (f : Form) → bit_and word m ≡ v → list_all (is_decided m v) ROWS ≡ true → form_among ROWS v ≡ Some f → form_of word ≡ Some f
+-- where the bits under m decide each row of the table, a word with the value v there has the form of v, if it has one
+pub form_under : (m v word : ℕ) → bit_and word m ≡ v → list_all (is_decided m v) ROWS ≡ true → form_of word ≡ form_among ROWS v
 unfolding form_of
-form_at m v word f e h at = ap (option_map (λ r. r.form)) (decided m v word ROWS e h) ∙ at
+form_under m v word e h = ap (option_map (λ r. r.form)) (decided m v word ROWS e h)
+
+pub form_at : (m v word : ℕ) (f : Form) → bit_and word m ≡ v → list_all (is_decided m v) ROWS ≡ true → form_among ROWS v ≡ Some f → form_of word ≡ Some f
+form_at m v word f e h at = form_under m v word e h ∙ at
 
 -- and the fields of that form
 pub row_at : (m v word : ℕ) (f : Form) {i : Option Instr} → bit_and word m ≡ v → list_all (is_decided m v) ROWS ≡ true →

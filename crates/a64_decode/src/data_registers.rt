@@ -1,10 +1,13 @@
 //! Data processing with registers (DDI 0487, C4.1).
-ghost use Rattle.std.specs.Prelude.{◌≡◌, bit_and, IfSome};
+ghost use Rattle.std.specs.Prelude.{◌≡◌, ◌≢◌, bit_and, if◌then◌else◌, IfSome};
 ghost use Rattle.std.specs.Option.{option_map};
+ghost use Rattle.a64_model.specs.Bits.{bit};
 ghost use Rattle.a64_model.specs.Rows.{form_of, row};
 ghost use Rattle.a64_model.specs.Widths.{HasWidths};
-ghost use Rattle.a64_model.specs.declared.rows.Form.TheVariants.{TwoSource};
+ghost use Rattle.a64_model.specs.declared.rows.Form.TheVariants.{OneSource, TwoSource};
+ghost use Rattle.a64_model.specs.declared.operands.AddOp.TheVariants.{Add, Subtract};
 
+use a64_model::bits::bit;
 use a64_model::instr::Instr;
 use a64_model::operands::{AddOp, OneSourceOp, TwoSourceOp};
 use a64_model::read::data_registers as read;
@@ -34,17 +37,43 @@ fn add_extended(word: u32) -> Option<Instr>
     }
 }
 
-/// Operations with the carry or under a condition, or with one or two sources.
-pub fn conditional_or_source(word: u32) -> Option<Instr>
-    requires { bit_and word 0x1F00_0000 ≡ 0x1A00_0000 }
+/// ADC, CSEL and CSINC, and operations with two sources.
+pub fn select_or_two_source(word: u32) -> Option<Instr>
+    requires { bit_and word 0x7F00_0000 ≡ 0x1A00_0000 }
+    ensures row { result ≡ row word }
+    ensures widths { IfSome result HasWidths }
+{
+    match word & 0x1FE0_0000 {
+        0x1A00_0000 => add_carry(word),
+        0x1A80_0000 => conditional_select(word),
+        0x1AC0_0000 => two_source(word),
+        _ => None,
+    }
+}
+
+/// SBC, CSINV and CSNEG, and operations with one source.
+pub fn select_or_one_source(word: u32) -> Option<Instr>
+    requires { bit_and word 0x7F00_0000 ≡ 0x5A00_0000 }
+    ensures row { result ≡ row word }
+    ensures widths { IfSome result HasWidths }
+{
+    match word & 0x1FE0_0000 {
+        0x1A00_0000 => add_carry(word),
+        0x1A80_0000 => conditional_select(word),
+        0x1AC0_0000 => one_source(word),
+        _ => None,
+    }
+}
+
+/// ADCS and SBCS, CCMN and CCMP.
+pub fn carry_or_compare(word: u32) -> Option<Instr>
+    requires { bit_and word 0x3F00_0000 ≡ 0x3A00_0000 }
     ensures row { result ≡ row word }
     ensures widths { IfSome result HasWidths }
 {
     match word & 0x1FE0_0000 {
         0x1A00_0000 => add_carry(word),
         0x1A40_0000 => conditional_compare(word),
-        0x1A80_0000 => conditional_select(word),
-        0x1AC0_0000 => one_or_two_source(word),
         _ => None,
     }
 }
@@ -63,7 +92,7 @@ fn add_carry(word: u32) -> Option<Instr>
 
 /// CCMN and CCMP.
 fn conditional_compare(word: u32) -> Option<Instr>
-    requires { bit_and word 0x1FE0_0000 ≡ 0x1A40_0000 }
+    requires { bit_and word 0x3FE0_0000 ≡ 0x3A40_0000 }
     ensures row { result ≡ row word }
     ensures widths { IfSome result HasWidths }
 {
@@ -76,25 +105,12 @@ fn conditional_compare(word: u32) -> Option<Instr>
 
 /// CSEL, CSINC, CSINV and CSNEG.
 fn conditional_select(word: u32) -> Option<Instr>
-    requires { bit_and word 0x1FE0_0000 ≡ 0x1A80_0000 }
+    requires { bit_and word 0x3FE0_0000 ≡ 0x1A80_0000 }
     ensures row { result ≡ row word }
     ensures widths { IfSome result HasWidths }
 {
     match word & 0x3FE0_0800 {
         0x1A80_0000 => read::conditional_select(word),
-        _ => None,
-    }
-}
-
-/// Operations with one or two sources.
-fn one_or_two_source(word: u32) -> Option<Instr>
-    requires { bit_and word 0x1FE0_0000 ≡ 0x1AC0_0000 }
-    ensures row { result ≡ row word }
-    ensures widths { IfSome result HasWidths }
-{
-    match word & 0x7FE0_0000 {
-        0x1AC0_0000 => two_source(word),
-        0x5AC0_0000 => one_source(word),
         _ => None,
     }
 }
@@ -124,6 +140,22 @@ fn two_source(word: u32) -> Option<Instr>
     read::two_source(two_source_op(word)?, word)
 }
 
+/// Which operation with one source it is, but for REV of 64 bits.
+fn one_source_op(word: u32) -> Option<OneSourceOp>
+    requires group { bit_and word 0x7FE0_0000 ≡ 0x5AC0_0000 }
+    requires no_reversal { bit_and word 0x7FFF_FC00 ≢ 0x5AC0_0C00 }
+    ensures { form_of word ≡ option_map OneSource result }
+{
+    match word & 0x7FFF_FC00 {
+        0x5AC0_0000 => Some(OneSourceOp::ReverseBits),
+        0x5AC0_0400 => Some(OneSourceOp::ReverseBytesOfHalves),
+        0x5AC0_0800 => Some(OneSourceOp::ReverseBytesOfWords),
+        0x5AC0_1000 => Some(OneSourceOp::CountLeadingZeros),
+        0x5AC0_1400 => Some(OneSourceOp::CountLeadingSigns),
+        _ => None,
+    }
+}
+
 /// Reversals and counts.
 fn one_source(word: u32) -> Option<Instr>
     requires { bit_and word 0x7FE0_0000 ≡ 0x5AC0_0000 }
@@ -131,13 +163,8 @@ fn one_source(word: u32) -> Option<Instr>
     ensures widths { IfSome result HasWidths }
 {
     match word & 0x7FFF_FC00 {
-        0x5AC0_0000 => read::one_source(OneSourceOp::ReverseBits, word),
-        0x5AC0_0400 => read::one_source(OneSourceOp::ReverseBytesOfHalves, word),
-        0x5AC0_0800 => read::one_source(OneSourceOp::ReverseBytesOfWords, word),
         0x5AC0_0C00 => reverse_bytes(word),
-        0x5AC0_1000 => read::one_source(OneSourceOp::CountLeadingZeros, word),
-        0x5AC0_1400 => read::one_source(OneSourceOp::CountLeadingSigns, word),
-        _ => None,
+        _ => read::one_source(one_source_op(word)?, word),
     }
 }
 
@@ -153,81 +180,72 @@ fn reverse_bytes(word: u32) -> Option<Instr>
     }
 }
 
-/// Multiplications.
-pub fn three_source(word: u32) -> Option<Instr>
-    requires { bit_and word 0x1F00_0000 ≡ 0x1B00_0000 }
+/// Multiplications of W registers.
+pub fn three_source_w(word: u32) -> Option<Instr>
+    requires { bit_and word 0xFF00_0000 ≡ 0x1B00_0000 }
     ensures row { result ≡ row word }
     ensures widths { IfSome result HasWidths }
 {
-    match word & 0x1FE0_0000 {
+    match word & 0x7F60_0000 {
         0x1B00_0000 => multiply_add(word),
-        0x1B20_0000 => signed_multiply_long(word),
-        0x1B40_0000 => signed_multiply_high(word),
-        0x1BA0_0000 => unsigned_multiply_long(word),
-        0x1BC0_0000 => unsigned_multiply_high(word),
         _ => None,
+    }
+}
+
+/// Multiplications into an X register. The long ones and the high halves have bit 23 where they are unsigned.
+pub fn three_source_x(word: u32) -> Option<Instr>
+    requires { bit_and word 0xFF00_0000 ≡ 0x9B00_0000 }
+    ensures row { result ≡ row word }
+    ensures widths { IfSome result HasWidths }
+{
+    match word & 0x7F60_0000 {
+        0x1B00_0000 => multiply_add(word),
+        0x1B20_0000 => multiply_long(word),
+        0x1B40_0000 => multiply_high(word),
+        _ => None,
+    }
+}
+
+/// A subtraction where bit 15 is set.
+fn add_op(word: u32) -> AddOp
+    ensures { result ≡ (if bit word 15 then Subtract else Add) }
+{
+    if bit(word, 15) {
+        AddOp::Subtract
+    } else {
+        AddOp::Add
     }
 }
 
 /// MADD and MSUB.
 fn multiply_add(word: u32) -> Option<Instr>
-    requires { bit_and word 0x1FE0_0000 ≡ 0x1B00_0000 }
+    requires { bit_and word 0x7F60_0000 ≡ 0x1B00_0000 }
     ensures row { result ≡ row word }
     ensures widths { IfSome result HasWidths }
 {
-    match word & 0x7FE0_8000 {
-        0x1B00_0000 => read::multiply_add(AddOp::Add, word),
-        0x1B00_8000 => read::multiply_add(AddOp::Subtract, word),
+    match word & 0x7FE0_0000 {
+        0x1B00_0000 => read::multiply_add(add_op(word), word),
         _ => None,
     }
 }
 
-/// SMADDL and SMSUBL.
-fn signed_multiply_long(word: u32) -> Option<Instr>
-    requires { bit_and word 0x1FE0_0000 ≡ 0x1B20_0000 }
+/// SMADDL, SMSUBL, UMADDL and UMSUBL.
+fn multiply_long(word: u32) -> Option<Instr>
+    requires { bit_and word 0xFF60_0000 ≡ 0x9B20_0000 }
     ensures row { result ≡ row word }
     ensures widths { IfSome result HasWidths }
 {
-    match word & 0xFFE0_8000 {
-        0x9B20_0000 => read::multiply_long(true, AddOp::Add, word),
-        0x9B20_8000 => read::multiply_long(true, AddOp::Subtract, word),
-        _ => None,
-    }
+    read::multiply_long(!bit(word, 23), add_op(word), word)
 }
 
-/// SMULH.
-fn signed_multiply_high(word: u32) -> Option<Instr>
-    requires { bit_and word 0x1FE0_0000 ≡ 0x1B40_0000 }
+/// SMULH and UMULH.
+fn multiply_high(word: u32) -> Option<Instr>
+    requires { bit_and word 0xFF60_0000 ≡ 0x9B40_0000 }
     ensures row { result ≡ row word }
     ensures widths { IfSome result HasWidths }
 {
-    match word & 0xFFE0_FC00 {
-        0x9B40_7C00 => read::multiply_high(true, word),
-        _ => None,
-    }
-}
-
-/// UMADDL and UMSUBL.
-fn unsigned_multiply_long(word: u32) -> Option<Instr>
-    requires { bit_and word 0x1FE0_0000 ≡ 0x1BA0_0000 }
-    ensures row { result ≡ row word }
-    ensures widths { IfSome result HasWidths }
-{
-    match word & 0xFFE0_8000 {
-        0x9BA0_0000 => read::multiply_long(false, AddOp::Add, word),
-        0x9BA0_8000 => read::multiply_long(false, AddOp::Subtract, word),
-        _ => None,
-    }
-}
-
-/// UMULH.
-fn unsigned_multiply_high(word: u32) -> Option<Instr>
-    requires { bit_and word 0x1FE0_0000 ≡ 0x1BC0_0000 }
-    ensures row { result ≡ row word }
-    ensures widths { IfSome result HasWidths }
-{
-    match word & 0xFFE0_FC00 {
-        0x9BC0_7C00 => read::multiply_high(false, word),
+    match word & 0xFF60_FC00 {
+        0x9B40_7C00 => read::multiply_high(!bit(word, 23), word),
         _ => None,
     }
 }

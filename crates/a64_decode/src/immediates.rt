@@ -3,8 +3,18 @@ ghost use Rattle.std.specs.Prelude.{◌≡◌, bit_and, IfSome};
 ghost use Rattle.a64_model.specs.Rows.{row};
 ghost use Rattle.a64_model.specs.Widths.{HasWidths};
 
+use a64_model::bits::bit;
 use a64_model::instr::Instr;
 use a64_model::read::immediates as read;
+
+/// ADR, and ADRP where bit 31 is set.
+pub fn pc_relative(word: u32) -> Option<Instr>
+    requires { bit_and word 0x1F00_0000 ≡ 0x1000_0000 }
+    ensures row { result ≡ row word }
+    ensures widths { IfSome result HasWidths }
+{
+    read::pc_relative(bit(word, 31), word)
+}
 
 /// Additions of an immediate. The other half has the tags of addresses, which have no row.
 pub fn add_immediate(word: u32) -> Option<Instr>

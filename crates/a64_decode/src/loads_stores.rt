@@ -3,8 +3,9 @@ ghost use Rattle.std.specs.Prelude.{◌≡◌, bit_and, IfSome};
 ghost use Rattle.std.specs.Option.{option_map};
 ghost use Rattle.a64_model.specs.Rows.{form_of, row};
 ghost use Rattle.a64_model.specs.Widths.{HasWidths};
-ghost use Rattle.a64_model.specs.declared.rows.Form.TheVariants.{LoadStoreIndexed, Atomic};
+ghost use Rattle.a64_model.specs.declared.rows.Form.TheVariants.{LoadStoreIndexed, LoadStorePair, Atomic};
 
+use a64_model::bits::{bit, bits};
 use a64_model::instr::Instr;
 use a64_model::operands::{AtomicOp, Indexing};
 use a64_model::read::loads_stores as read;
@@ -66,10 +67,22 @@ fn ordered(word: u32) -> Option<Instr>
     ensures row { result ≡ row word }
     ensures widths { IfSome result HasWidths }
 {
-    match word & 0x3FFF_FC00 {
-        0x089F_FC00 => read::store_ordered(word),
-        0x08DF_FC00 => read::load_ordered(word),
+    match word & 0x3FBF_FC00 {
+        0x089F_FC00 => load_or_store_ordered(word),
         _ => None,
+    }
+}
+
+/// STLR, and LDAR where bit 22 is set.
+fn load_or_store_ordered(word: u32) -> Option<Instr>
+    requires { bit_and word 0x3FBF_FC00 ≡ 0x089F_FC00 }
+    ensures row { result ≡ row word }
+    ensures widths { IfSome result HasWidths }
+{
+    if bit(word, 22) {
+        read::load_ordered(word)
+    } else {
+        read::store_ordered(word)
     }
 }
 
@@ -85,29 +98,29 @@ fn compare_swap(word: u32) -> Option<Instr>
     }
 }
 
-/// Pairs with post-index. The other half has no row: it is not temporal.
-pub fn pair_post_index(word: u32) -> Option<Instr>
-    requires { bit_and word 0x3F00_0000 ≡ 0x2800_0000 }
-    ensures row { result ≡ row word }
-    ensures widths { IfSome result HasWidths }
+/// How a pair makes its address, by bits 24 and 23. The first has other rules, and no row: it is not temporal.
+static PAIR_INDEXINGS: [Option<Indexing>; 4] = [
+    None,
+    Some(Indexing::PostIndex),
+    Some(Indexing::Offset),
+    Some(Indexing::PreIndex),
+];
+
+/// How a pair makes its address.
+fn pair_indexing(word: u32) -> Option<Indexing>
+    requires { bit_and word 0x3E00_0000 ≡ 0x2800_0000 }
+    ensures { form_of word ≡ option_map LoadStorePair result }
 {
-    match word & 0x3F80_0000 {
-        0x2880_0000 => read::load_store_pair(Indexing::PostIndex, word),
-        _ => None,
-    }
+    PAIR_INDEXINGS[bits(word, 24, 23) as usize]
 }
 
-/// Pairs with a signed offset or pre-index.
+/// Pairs.
 pub fn pair(word: u32) -> Option<Instr>
-    requires { bit_and word 0x3F00_0000 ≡ 0x2900_0000 }
+    requires { bit_and word 0x3E00_0000 ≡ 0x2800_0000 }
     ensures row { result ≡ row word }
     ensures widths { IfSome result HasWidths }
 {
-    match word & 0x3F80_0000 {
-        0x2900_0000 => read::load_store_pair(Indexing::Offset, word),
-        0x2980_0000 => read::load_store_pair(Indexing::PreIndex, word),
-        _ => None,
-    }
+    read::load_store_pair(pair_indexing(word)?, word)
 }
 
 /// Accesses by a signed offset or a register, and atomic operations.
@@ -123,17 +136,20 @@ pub fn indexed_or_atomic(word: u32) -> Option<Instr>
     }
 }
 
-/// How an access by a signed offset makes its address. Its last value has other rules, and no row.
+/// How an access by a signed offset makes its address, by bits 11 and 10. The third has other rules, and no row.
+static INDEXINGS: [Option<Indexing>; 4] = [
+    Some(Indexing::Offset),
+    Some(Indexing::PostIndex),
+    None,
+    Some(Indexing::PreIndex),
+];
+
+/// How an access by a signed offset makes its address.
 fn indexing(word: u32) -> Option<Indexing>
     requires { bit_and word 0x3F20_0000 ≡ 0x3800_0000 }
     ensures { form_of word ≡ option_map LoadStoreIndexed result }
 {
-    match word & 0x3F20_0C00 {
-        0x3800_0000 => Some(Indexing::Offset),
-        0x3800_0400 => Some(Indexing::PostIndex),
-        0x3800_0C00 => Some(Indexing::PreIndex),
-        _ => None,
-    }
+    INDEXINGS[bits(word, 11, 10) as usize]
 }
 
 /// Accesses by a signed offset.

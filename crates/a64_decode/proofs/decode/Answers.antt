@@ -1,8 +1,11 @@
-use Rattle.std.proofs.Common.{ℕ, List, refl, rules, [], ◌∷◌, false, true}
+use Rattle.std.proofs.Common.{ℕ, List, refl, rules, [], ◌∷◌}
 use Rattle.a64_model.specs.declared.rows.Form.TheVariants as form
 use Rattle.a64_decode.proofs.FirstByte.{under, no_row_above}
 use Rattle.a64_decode.proofs.Rows.{row_at}
 use Rattle.a64_decode.proofs.decode.Goals as goal
+
+pub pc_relative-requires : goal.pc_relative-requires
+pc_relative-requires c = under 0x1F00_0000 0x1000_0000 (0x10 ∷ 0x30 ∷ 0x50 ∷ 0x70 ∷ 0x90 ∷ 0xB0 ∷ 0xD0 ∷ 0xF0 ∷ []) c.args.word refl refl c.in-16.is
 
 pub add_immediate-requires : goal.add_immediate-requires
 add_immediate-requires c = under 0x1F00_0000 0x1100_0000 (0x11 ∷ 0x31 ∷ 0x51 ∷ 0x71 ∷ 0x91 ∷ 0xB1 ∷ 0xD1 ∷ 0xF1 ∷ []) c.args.word refl refl c.in-17.is
@@ -13,14 +16,32 @@ logical_or_move-requires c = under 0x1F00_0000 0x1200_0000 (0x12 ∷ 0x32 ∷ 0x
 pub bitfield_or_extract-requires : goal.bitfield_or_extract-requires
 bitfield_or_extract-requires c = under 0x1F00_0000 0x1300_0000 (0x13 ∷ 0x33 ∷ 0x53 ∷ 0x73 ∷ 0x93 ∷ 0xB3 ∷ 0xD3 ∷ 0xF3 ∷ []) c.args.word refl refl c.in-19.is
 
+pub branch-word-requires : goal.branch-word-requires
+branch-word-requires c = under 0x7C00_0000 0x1400_0000 (0x14 ∷ 0x16 ∷ 0x94 ∷ 0x96 ∷ []) c.args.word refl refl c.in-20.is
+
+pub branch-word-requires-in-21 : goal.branch-word-requires-in-21
+branch-word-requires-in-21 c = under 0x7C00_0000 0x1400_0000 (0x15 ∷ 0x17 ∷ 0x95 ∷ 0x97 ∷ []) c.args.word refl refl c.in-21.is
+
+pub compare_branch-requires : goal.compare_branch-requires
+compare_branch-requires c = under 0x7E00_0000 0x3400_0000 (0x34 ∷ 0xB4 ∷ []) c.args.word refl refl c.in-52.is
+
+pub compare_branch-requires-in-53 : goal.compare_branch-requires-in-53
+compare_branch-requires-in-53 c = under 0x7E00_0000 0x3400_0000 (0x35 ∷ 0xB5 ∷ []) c.args.word refl refl c.in-53.is
+
+pub test_branch-requires : goal.test_branch-requires
+test_branch-requires c = under 0x7E00_0000 0x3600_0000 (0x36 ∷ 0xB6 ∷ []) c.args.word refl refl c.in-54.is
+
+pub test_branch-requires-in-55 : goal.test_branch-requires-in-55
+test_branch-requires-in-55 c = under 0x7E00_0000 0x3600_0000 (0x37 ∷ 0xB7 ∷ []) c.args.word refl refl c.in-55.is
+
 pub exclusive_or_ordered-requires : goal.exclusive_or_ordered-requires
 exclusive_or_ordered-requires c = under 0x3F00_0000 0x0800_0000 (0x08 ∷ 0x48 ∷ 0x88 ∷ 0xC8 ∷ []) c.args.word refl refl c.in-8.is
 
-pub pair_post_index-requires : goal.pair_post_index-requires
-pair_post_index-requires c = under 0x3F00_0000 0x2800_0000 (0x28 ∷ 0x68 ∷ 0xA8 ∷ 0xE8 ∷ []) c.args.word refl refl c.in-40.is
-
 pub pair-requires : goal.pair-requires
-pair-requires c = under 0x3F00_0000 0x2900_0000 (0x29 ∷ 0x69 ∷ 0xA9 ∷ 0xE9 ∷ []) c.args.word refl refl c.in-41.is
+pair-requires c = under 0x3E00_0000 0x2800_0000 (0x28 ∷ 0x68 ∷ 0xA8 ∷ 0xE8 ∷ []) c.args.word refl refl c.in-40.is
+
+pub pair-requires-in-41 : goal.pair-requires-in-41
+pair-requires-in-41 c = under 0x3E00_0000 0x2800_0000 (0x29 ∷ 0x69 ∷ 0xA9 ∷ 0xE9 ∷ []) c.args.word refl refl c.in-41.is
 
 pub indexed_or_atomic-requires : goal.indexed_or_atomic-requires
 indexed_or_atomic-requires c = under 0x3F00_0000 0x3800_0000 (0x38 ∷ 0x78 ∷ 0xB8 ∷ 0xF8 ∷ []) c.args.word refl refl c.in-56.is
@@ -28,51 +49,20 @@ indexed_or_atomic-requires c = under 0x3F00_0000 0x3800_0000 (0x38 ∷ 0x78 ∷ 
 pub add_register-requires : goal.add_register-requires
 add_register-requires c = under 0x1F00_0000 0x0B00_0000 (0x0B ∷ 0x2B ∷ 0x4B ∷ 0x6B ∷ 0x8B ∷ 0xAB ∷ 0xCB ∷ 0xEB ∷ []) c.args.word refl refl c.in-11.is
 
-pub conditional_or_source-requires : goal.conditional_or_source-requires
-conditional_or_source-requires c = under 0x1F00_0000 0x1A00_0000 (0x1A ∷ 0x3A ∷ 0x5A ∷ 0x7A ∷ 0x9A ∷ 0xBA ∷ 0xDA ∷ 0xFA ∷ []) c.args.word refl refl c.in-26.is
+pub select_or_two_source-requires : goal.select_or_two_source-requires
+select_or_two_source-requires c = under 0x7F00_0000 0x1A00_0000 (0x1A ∷ 0x9A ∷ []) c.args.word refl refl c.in-26.is
 
-pub three_source-requires : goal.three_source-requires
-three_source-requires c = under 0x1F00_0000 0x1B00_0000 (0x1B ∷ 0x3B ∷ 0x5B ∷ 0x7B ∷ 0x9B ∷ 0xBB ∷ 0xDB ∷ 0xFB ∷ []) c.args.word refl refl c.in-27.is
+pub select_or_one_source-requires : goal.select_or_one_source-requires
+select_or_one_source-requires c = under 0x7F00_0000 0x5A00_0000 (0x5A ∷ 0xDA ∷ []) c.args.word refl refl c.in-90.is
 
-pub returns-in-16-clause-row : goal.returns-in-16-clause-row
-returns-in-16-clause-row c =
-    row_at 0x9F00_0000 0x1000_0000 c.args.word (form.PcRelative false) (under 0x9F00_0000 0x1000_0000 (0x10 ∷ 0x30 ∷ 0x50 ∷ 0x70 ∷ []) c.args.word refl refl c.in-16.is) refl refl c.pc_relative.ensures.value
+pub carry_or_compare-requires : goal.carry_or_compare-requires
+carry_or_compare-requires c = under 0x3F00_0000 0x3A00_0000 (0x3A ∷ 0x7A ∷ 0xBA ∷ 0xFA ∷ []) c.args.word refl refl c.in-58.is
 
-pub returns-in-144-clause-row : goal.returns-in-144-clause-row
-returns-in-144-clause-row c =
-    row_at 0x9F00_0000 0x9000_0000 c.args.word (form.PcRelative true) (under 0x9F00_0000 0x9000_0000 (0x90 ∷ 0xB0 ∷ 0xD0 ∷ 0xF0 ∷ []) c.args.word refl refl c.in-144.is) refl refl c.pc_relative-in-144.ensures.value
+pub three_source_w-requires : goal.three_source_w-requires
+three_source_w-requires c = under 0xFF00_0000 0x1B00_0000 (0x1B ∷ []) c.args.word refl refl c.in-27.is
 
-pub returns-in-20-clause-row : goal.returns-in-20-clause-row
-returns-in-20-clause-row c =
-    row_at 0xFC00_0000 0x1400_0000 c.args.word (form.Branch false) (under 0xFC00_0000 0x1400_0000 (0x14 ∷ 0x16 ∷ []) c.args.word refl refl c.in-20.is) refl refl c.branch-word.ensures.value
-
-pub returns-in-21-clause-row : goal.returns-in-21-clause-row
-returns-in-21-clause-row c =
-    row_at 0xFC00_0000 0x1400_0000 c.args.word (form.Branch false) (under 0xFC00_0000 0x1400_0000 (0x15 ∷ 0x17 ∷ []) c.args.word refl refl c.in-21.is) refl refl c.branch-word-in-21.ensures.value
-
-pub returns-in-148-clause-row : goal.returns-in-148-clause-row
-returns-in-148-clause-row c =
-    row_at 0xFC00_0000 0x9400_0000 c.args.word (form.Branch true) (under 0xFC00_0000 0x9400_0000 (0x94 ∷ 0x96 ∷ []) c.args.word refl refl c.in-148.is) refl refl c.branch-word-in-148.ensures.value
-
-pub returns-in-149-clause-row : goal.returns-in-149-clause-row
-returns-in-149-clause-row c =
-    row_at 0xFC00_0000 0x9400_0000 c.args.word (form.Branch true) (under 0xFC00_0000 0x9400_0000 (0x95 ∷ 0x97 ∷ []) c.args.word refl refl c.in-149.is) refl refl c.branch-word-in-149.ensures.value
-
-pub returns-in-52-clause-row : goal.returns-in-52-clause-row
-returns-in-52-clause-row c =
-    row_at 0x7F00_0000 0x3400_0000 c.args.word (form.CompareBranch false) (under 0x7F00_0000 0x3400_0000 (0x34 ∷ 0xB4 ∷ []) c.args.word refl refl c.in-52.is) refl refl c.compare_branch.ensures.value
-
-pub returns-in-53-clause-row : goal.returns-in-53-clause-row
-returns-in-53-clause-row c =
-    row_at 0x7F00_0000 0x3500_0000 c.args.word (form.CompareBranch true) (under 0x7F00_0000 0x3500_0000 (0x35 ∷ 0xB5 ∷ []) c.args.word refl refl c.in-53.is) refl refl c.compare_branch-in-53.ensures.value
-
-pub returns-in-54-clause-row : goal.returns-in-54-clause-row
-returns-in-54-clause-row c =
-    row_at 0x7F00_0000 0x3600_0000 c.args.word (form.TestBranch false) (under 0x7F00_0000 0x3600_0000 (0x36 ∷ 0xB6 ∷ []) c.args.word refl refl c.in-54.is) refl refl c.test_branch.ensures.value
-
-pub returns-in-55-clause-row : goal.returns-in-55-clause-row
-returns-in-55-clause-row c =
-    row_at 0x7F00_0000 0x3700_0000 c.args.word (form.TestBranch true) (under 0x7F00_0000 0x3700_0000 (0x37 ∷ 0xB7 ∷ []) c.args.word refl refl c.in-55.is) refl refl c.test_branch-in-55.ensures.value
+pub three_source_x-requires : goal.three_source_x-requires
+three_source_x-requires c = under 0xFF00_0000 0x9B00_0000 (0x9B ∷ []) c.args.word refl refl c.in-155.is
 
 pub returns-in-24-clause-row : goal.returns-in-24-clause-row
 returns-in-24-clause-row c =
@@ -89,15 +79,12 @@ returns-in-10-clause-row c =
 -- the first bytes of each arm
 abbrev groups : List (List ℕ)
 groups =
-    (0x10 ∷ 0x30 ∷ 0x50 ∷ 0x70 ∷ [])
-    ∷ (0x90 ∷ 0xB0 ∷ 0xD0 ∷ 0xF0 ∷ [])
+    (0x10 ∷ 0x30 ∷ 0x50 ∷ 0x70 ∷ 0x90 ∷ 0xB0 ∷ 0xD0 ∷ 0xF0 ∷ [])
     ∷ (0x11 ∷ 0x31 ∷ 0x51 ∷ 0x71 ∷ 0x91 ∷ 0xB1 ∷ 0xD1 ∷ 0xF1 ∷ [])
     ∷ (0x12 ∷ 0x32 ∷ 0x52 ∷ 0x72 ∷ 0x92 ∷ 0xB2 ∷ 0xD2 ∷ 0xF2 ∷ [])
     ∷ (0x13 ∷ 0x33 ∷ 0x53 ∷ 0x73 ∷ 0x93 ∷ 0xB3 ∷ 0xD3 ∷ 0xF3 ∷ [])
-    ∷ (0x14 ∷ 0x16 ∷ [])
-    ∷ (0x15 ∷ 0x17 ∷ [])
-    ∷ (0x94 ∷ 0x96 ∷ [])
-    ∷ (0x95 ∷ 0x97 ∷ [])
+    ∷ (0x14 ∷ 0x16 ∷ 0x94 ∷ 0x96 ∷ [])
+    ∷ (0x15 ∷ 0x17 ∷ 0x95 ∷ 0x97 ∷ [])
     ∷ (0x34 ∷ 0xB4 ∷ [])
     ∷ (0x35 ∷ 0xB5 ∷ [])
     ∷ (0x36 ∷ 0xB6 ∷ [])
@@ -114,8 +101,11 @@ groups =
     ∷ (0x39 ∷ 0x79 ∷ 0xB9 ∷ 0xF9 ∷ [])
     ∷ (0x0A ∷ 0x2A ∷ 0x4A ∷ 0x6A ∷ 0x8A ∷ 0xAA ∷ 0xCA ∷ 0xEA ∷ [])
     ∷ (0x0B ∷ 0x2B ∷ 0x4B ∷ 0x6B ∷ 0x8B ∷ 0xAB ∷ 0xCB ∷ 0xEB ∷ [])
-    ∷ (0x1A ∷ 0x3A ∷ 0x5A ∷ 0x7A ∷ 0x9A ∷ 0xBA ∷ 0xDA ∷ 0xFA ∷ [])
-    ∷ (0x1B ∷ 0x3B ∷ 0x5B ∷ 0x7B ∷ 0x9B ∷ 0xBB ∷ 0xDB ∷ 0xFB ∷ [])
+    ∷ (0x1A ∷ 0x9A ∷ [])
+    ∷ (0x5A ∷ 0xDA ∷ [])
+    ∷ (0x3A ∷ 0x7A ∷ 0xBA ∷ 0xFA ∷ [])
+    ∷ (0x1B ∷ [])
+    ∷ (0x9B ∷ [])
     ∷ []
 
 pub returns-in_default-clause-row : goal.returns-in_default-clause-row

@@ -74,15 +74,20 @@ pub fn logical_immediate(word: u32) -> Option<Instr>
     }))
 }
 
+/// The wide moves by opc. A table is read without a branch on opc, which a processor would often predict wrongly from word
+/// to word.
+static MOVE_WIDE_OPS: [Option<MoveWideOp>; 4] = [
+    Some(MoveWideOp::Not),
+    None,
+    Some(MoveWideOp::Zero),
+    Some(MoveWideOp::Keep),
+];
+
 fn move_wide_op(opc: u32) -> Option<MoveWideOp>
+    requires { opc < 4 }
     ensures { result ≡ move_wide_op opc }
 {
-    match opc {
-        0 => Some(MoveWideOp::Not),
-        2 => Some(MoveWideOp::Zero),
-        3 => Some(MoveWideOp::Keep),
-        _ => None,
-    }
+    MOVE_WIDE_OPS[opc as usize]
 }
 
 pub fn move_wide(word: u32) -> Option<Instr>
@@ -105,15 +110,19 @@ pub fn move_wide(word: u32) -> Option<Instr>
     }))
 }
 
+/// The bitfield moves by opc.
+static BITFIELD_OPS: [Option<BitfieldOp>; 4] = [
+    Some(BitfieldOp::Signed),
+    Some(BitfieldOp::Kept),
+    Some(BitfieldOp::Unsigned),
+    None,
+];
+
 fn bitfield_op(opc: u32) -> Option<BitfieldOp>
+    requires { opc < 4 }
     ensures { result ≡ bitfield_op opc }
 {
-    match opc {
-        0 => Some(BitfieldOp::Signed),
-        1 => Some(BitfieldOp::Kept),
-        2 => Some(BitfieldOp::Unsigned),
-        _ => None,
-    }
+    BITFIELD_OPS[opc as usize]
 }
 
 pub fn bitfield(word: u32) -> Option<Instr>

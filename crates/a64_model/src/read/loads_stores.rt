@@ -53,10 +53,7 @@ fn transfer(size: Size, opc: u32, prefetches: bool) -> Option<Transfer>
 fn may_write_back(indexing: Indexing, rn: Reg, rt: Reg) -> bool
     ensures { result ≡ may_write_back indexing rn rt }
 {
-    match indexing {
-        Indexing::Offset => true,
-        Indexing::PostIndex | Indexing::PreIndex => is_31(rn) || !is_same(rn, rt),
-    }
+    is_offset(indexing) | is_31(rn) | !is_same(rn, rt)
 }
 
 pub fn load_store_unsigned(word: u32) -> Option<Instr>
@@ -140,15 +137,31 @@ pub fn load_literal(word: u32) -> Option<Instr>
     }))
 }
 
+/// The pairs that are loaded, by opc.
+static LOADED_PAIRS: [Option<PairKind>; 4] = [
+    Some(PairKind::Word),
+    Some(PairKind::SignedWord),
+    Some(PairKind::Double),
+    None,
+];
+
+/// The pairs that are stored, by opc.
+static STORED_PAIRS: [Option<PairKind>; 4] = [
+    Some(PairKind::Word),
+    None,
+    Some(PairKind::Double),
+    None,
+];
+
 fn pair_kind(opc: u32, load: bool) -> Option<PairKind>
+    requires { opc < 4 }
     ensures value { result ≡ pair_kind opc load }
     ensures signed { IfSome result (λ kind. IsTrue (is_pair_kind kind load)) }
 {
-    match opc {
-        0 => Some(PairKind::Word),
-        2 => Some(PairKind::Double),
-        1 if load => Some(PairKind::SignedWord),
-        _ => None,
+    if load {
+        LOADED_PAIRS[opc as usize]
+    } else {
+        STORED_PAIRS[opc as usize]
     }
 }
 

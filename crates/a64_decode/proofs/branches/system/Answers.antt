@@ -4,4 +4,4 @@ use Rattle.a64_decode.proofs.branches.system.Goals as goal
 
 pub returns-in_default-clause-row : goal.returns-in_default-clause-row
 returns-in_default-clause-row c =
-    no_row (Is 0xFF00_0000 0xD500_0000 ∷ IsNone 0xFFF0_0000 (0xD500_0000 ∷ 0xD510_0000 ∷ 0xD530_0000 ∷ []) ∷ []) c.args.word (search rules) refl
+    no_row (Is 0xFF00_0000 0xD500_0000 ∷ IsNone 0xFFD0_0000 (0xD500_0000 ∷ 0xD510_0000 ∷ []) ∷ []) c.args.word (search rules) refl

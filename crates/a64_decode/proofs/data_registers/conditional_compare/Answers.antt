@@ -13,4 +13,4 @@ returns-in-977274880-clause-row c =
 
 pub returns-in_default-clause-row : goal.returns-in_default-clause-row
 returns-in_default-clause-row c =
-    no_row (Is 0x1FE0_0000 0x1A40_0000 ∷ IsNone 0x3FE0_0C10 (0x3A40_0000 ∷ 0x3A40_0800 ∷ []) ∷ []) c.args.word (search rules) refl
+    no_row (Is 0x3FE0_0000 0x3A40_0000 ∷ IsNone 0x3FE0_0C10 (0x3A40_0000 ∷ 0x3A40_0800 ∷ []) ∷ []) c.args.word (search rules) refl

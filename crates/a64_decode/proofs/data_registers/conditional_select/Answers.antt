@@ -9,4 +9,4 @@ returns-in-444596224-clause-row c =
 
 pub returns-in_default-clause-row : goal.returns-in_default-clause-row
 returns-in_default-clause-row c =
-    no_row (Is 0x1FE0_0000 0x1A80_0000 ∷ IsNone 0x3FE0_0800 (0x1A80_0000 ∷ []) ∷ []) c.args.word (search rules) refl
+    no_row (Is 0x3FE0_0000 0x1A80_0000 ∷ IsNone 0x3FE0_0800 (0x1A80_0000 ∷ []) ∷ []) c.args.word (search rules) refl

@@ -1,18 +1,17 @@
-use Rattle.std.proofs.Common.{refl, rules, [], ◌∷◌}
-use Rattle.a64_model.specs.declared.rows.Form.TheVariants as form
-use Rattle.a64_model.specs.declared.operands.Indexing.TheVariants.{Offset, PostIndex, PreIndex}
-use Rattle.a64_decode.proofs.Rows.{form_at, no_form, Is, IsNone}
+use Rattle.std.proofs.Common.{ℕ, Option, None, slice_index_or, refl, rules, ◌∙◌, ap, sym}
+use Rattle.std.specs.Option.{option_map}
+use Rattle.a64_model.specs.declared.rows.Form.{Form}
+use Rattle.a64_model.specs.declared.rows.Form.TheVariants.{LoadStoreIndexed}
+use Rattle.a64_decode.specs.declared.loads_stores.TheConstants.{INDEXINGS}
+use Rattle.a64_decode.proofs.Fields.{form_by_field}
 use Rattle.a64_decode.proofs.loads_stores.indexing.Goals as goal
 
-pub returns-in-939524096 : goal.returns-in-939524096
-returns-in-939524096 c = form_at 0x3F20_0C00 0x3800_0000 c.args.word (form.LoadStoreIndexed Offset) (search rules) refl refl
+-- the form of each value of the field
+abbrev form : ℕ → Option Form
+form n = option_map LoadStoreIndexed (slice_index_or INDEXINGS n None)
 
-pub returns-in-939525120 : goal.returns-in-939525120
-returns-in-939525120 c = form_at 0x3F20_0C00 0x3800_0400 c.args.word (form.LoadStoreIndexed PostIndex) (search rules) refl refl
-
-pub returns-in-939527168 : goal.returns-in-939527168
-returns-in-939527168 c = form_at 0x3F20_0C00 0x3800_0C00 c.args.word (form.LoadStoreIndexed PreIndex) (search rules) refl refl
-
-pub returns-in_default : goal.returns-in_default
-returns-in_default c =
-    no_form (Is 0x3F20_0000 0x3800_0000 ∷ IsNone 0x3F20_0C00 (0x3800_0000 ∷ 0x3800_0400 ∷ 0x3800_0C00 ∷ []) ∷ []) c.args.word (search rules) refl
+pub returns : goal.returns
+returns c =
+    form_by_field 0x3F20_0000 0x3800_0000 2 10 form c.args.word (search rules)
+    ((refl, refl), ((refl, refl), ((refl, refl), ((refl, refl), tt))))
+    ∙ ap form (sym c.bits.ensures)

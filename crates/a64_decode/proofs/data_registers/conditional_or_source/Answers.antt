@@ -1,7 +1,0 @@
-use Rattle.std.proofs.Common.{refl, rules, [], ◌∷◌}
-use Rattle.a64_decode.proofs.Rows.{no_row, Is, IsNone}
-use Rattle.a64_decode.proofs.data_registers.conditional_or_source.Goals as goal
-
-pub returns-in_default-clause-row : goal.returns-in_default-clause-row
-returns-in_default-clause-row c =
-    no_row (Is 0x1F00_0000 0x1A00_0000 ∷ IsNone 0x1FE0_0000 (0x1A00_0000 ∷ 0x1A40_0000 ∷ 0x1A80_0000 ∷ 0x1AC0_0000 ∷ []) ∷ []) c.args.word (search rules) refl
