@@ -1,5 +1,5 @@
 //! The calls that make, change and wait for epolls (epoll_create1(2), epoll_ctl(2), epoll_wait(2)).
-ghost use Rattle.std.specs.Prelude.{◌≡◌, ◌≤◌, ◌<◌, ◌*◌, ◌+◌, ◌==◌, ◌++◌, ◌∷◌, [], length, slice_set, true, Some, None, is_some, IfOk, OnOk, OnErr};
+ghost use Rattle.std.specs.Prelude.{◌≡◌, ◌≤◌, ◌<◌, ◌*◌, ◌+◌, ◌==◌, ◌++◌, ◌∷◌, [], length, slice_set, true, Some, None, is_some, IfErr, IfOk, OnOk, OnErr};
 ghost use Rattle.std.specs.Option.{option_map};
 ghost use Rattle.places.specs.Places.{number_at};
 ghost use Rattle.lx_machine.specs.Lists.{bind, at_place};
@@ -627,7 +627,8 @@ pub fn epoll_move(
 
 /// Expire: the wait ends by its deadline, and the call answers 0. Not enabled: it holds no epoll.
 pub fn epoll_expire(files: &mut Files, call: &mut LxCall) -> Result<(), LxRefusal>
-    ensures { Makes (epoll_expired files.old call.old) files.old call.old files.new call.new result }
+    ensures makes { Makes (epoll_expired files.old call.old) files.old call.old files.new call.new result }
+    ensures no_step { IfErr result (λ e. e ≡ LxRefusal.NoStep) }
 {
     let Some(file) = call.held else {
         return Err(LxRefusal::NoStep);

@@ -1,5 +1,6 @@
 -- What a step of the runnable machine answers.
-use Rattle.std.specs.Prelude.{◌≡◌, Option, Some, None, Result, Ok, Err, ⊤}
+use Rattle.std.specs.Prelude.{◌≡◌, Bool, true, false, Option, Some, None, Result, Ok, Err, ⊤}
+use Rattle.std.specs.Bool.{OnFalse}
 use Rattle.lx_machine.specs.declared.label.Label.{Label}
 use Rattle.lx_machine.specs.declared.label.Label.TheVariants as label
 use Rattle.lx_machine.specs.declared.state.LinuxState.{LinuxState}
@@ -19,13 +20,21 @@ IsDecided (Ok done) = ⊤
 IsDecided (Err NoStep) = ⊤
 IsDecided (Err NoMemory) = ⊥
 
--- Return, Take, Frame, Kill, Gone, Time and Drain need none
+-- the steps that may need memory: those that copy bytes in or make bytes, that take a hold or a place, and those of
+-- instructions and effects
+abbrev pub may_need_memory : Label → Bool
+may_need_memory (label.Instr s) = true
+may_need_memory (label.Fetch s) = true
+may_need_memory (label.Hold s) = true
+may_need_memory (label.Effect s short) = true
+may_need_memory (label.Move s picks) = true
+may_need_memory (label.Clock s) = true
+may_need_memory (label.Queue s) = true
+may_need_memory (label.Mark s) = true
+may_need_memory (label.Interrupt s list sig) = true
+may_need_memory (label.Leave s) = true
+may_need_memory _ = false
+
+-- all others are never refused for want of it
 abbrev pub IsDecidedAt : Label → Result (Unit {0}) LxRefusal → Type 0
-IsDecidedAt (label.Return s named) r = IsDecided r
-IsDecidedAt (label.Take s list sig) r = IsDecided r
-IsDecidedAt (label.Frame s) r = IsDecided r
-IsDecidedAt (label.Kill s) r = IsDecided r
-IsDecidedAt (label.Gone s) r = IsDecided r
-IsDecidedAt (label.Time t) r = IsDecided r
-IsDecidedAt (label.Drain which n) r = IsDecided r
-IsDecidedAt _ r = ⊤
+IsDecidedAt l r = OnFalse (may_need_memory l) (IsDecided r)

@@ -7,6 +7,7 @@ ghost use Rattle.lx_calls.specs.Table.{effects, file_effect};
 ghost use Rattle.lx_transfers.specs.Transfers.{has_room_for_broken_pipe, with_broken_pipe};
 ghost use Rattle.lx_calls.specs.Waits.{move};
 ghost use Rattle.lx_run.specs.Outcomes.{CallGoes, move_of_transfer};
+ghost use Rattle.lx_run.specs.Steps.{IsDecided};
 
 use linux_abi::{Call, LinuxSig};
 use lx_epolls::epoll_calls::{epoll_create1, epoll_ctl, epoll_hold, epoll_move};
@@ -49,7 +50,8 @@ pub fn let_go(
     call: &mut LxCall,
     stage: Stage,
 ) -> Result<(), LxRefusal>
-    ensures { CallGoes (machine.let_go effects stage state.old slot thread.now call.old) state.old state.new slot thread.now thread.now call.old call.new result }
+    ensures goes { CallGoes (machine.let_go effects stage state.old slot thread.now call.old) state.old state.new slot thread.now thread.now call.old call.new result }
+    ensures decided { IsDecided result }
 {
     match stage {
         Stage::Drop => transfers::let_go(&mut state.files, call),

@@ -7,6 +7,7 @@ ghost use Rattle.linux_abi.specs.Call.{call_of};
 ghost use Rattle.lx_threads.specs.Futexes.{outcome, woken};
 ghost use Rattle.lx_calls.specs.Table.{effects};
 ghost use Rattle.lx_run.specs.Outcomes.{CallGoes};
+ghost use Rattle.lx_run.specs.Steps.{IsDecided};
 
 use crate::threads::unmark;
 use linux_abi::Call;
@@ -47,7 +48,8 @@ pub fn requeue(
     call: &mut LxCall,
     stage: Stage,
 ) -> Result<(), LxRefusal>
-    ensures { CallGoes (machine.requeue effects stage state.old slot thread.now call.old) state.old state.new slot thread.now thread.now call.old call.new result }
+    ensures goes { CallGoes (machine.requeue effects stage state.old slot thread.now call.old) state.old state.new slot thread.now thread.now call.old call.new result }
+    ensures decided { IsDecided result }
 {
     match stage {
         Stage::Requeue(asked) => {
@@ -66,7 +68,8 @@ pub fn wake_op(
     call: &mut LxCall,
     stage: Stage,
 ) -> Result<(), LxRefusal>
-    ensures { CallGoes (machine.word_op effects stage state.old slot thread.now call.old) state.old state.new slot thread.now thread.now call.old call.new result }
+    ensures goes { CallGoes (machine.word_op effects stage state.old slot thread.now call.old) state.old state.new slot thread.now thread.now call.old call.new result }
+    ensures decided { IsDecided result }
 {
     match stage {
         Stage::WakeOp(asked) => {
@@ -99,7 +102,8 @@ pub fn release(
     call: &mut LxCall,
     stage: Stage,
 ) -> Result<(), LxRefusal>
-    ensures { CallGoes (machine.release effects stage state.old slot thread.now call.old) state.old state.new slot thread.now thread.now call.old call.new result }
+    ensures goes { CallGoes (machine.release effects stage state.old slot thread.now call.old) state.old state.new slot thread.now thread.now call.old call.new result }
+    ensures decided { IsDecided result }
 {
     match stage {
         Stage::Release(wake) => {
@@ -118,7 +122,8 @@ pub fn resume(
     call: &mut LxCall,
     stage: Stage,
 ) -> Result<(), LxRefusal>
-    ensures { CallGoes (machine.resume effects stage state.now slot thread.now call.old) state.now state.now slot thread.now thread.now call.old call.new result }
+    ensures goes { CallGoes (machine.resume effects stage state.now slot thread.now call.old) state.now state.now slot thread.now thread.now call.old call.new result }
+    ensures decided { IsDecided result }
 {
     match stage {
         Stage::Wait => resumed(thread.tid, &state.queue, call),

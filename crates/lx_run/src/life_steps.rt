@@ -6,6 +6,7 @@ ghost use Rattle.lx_calls.specs.Table.{effects};
 ghost use Rattle.lx_machine.specs.Step as machine;
 ghost use Rattle.lx_machine.specs.Lists.{at_place};
 ghost use Rattle.lx_run.specs.Outcomes.{CallGoes, StartsAt, Starts};
+ghost use Rattle.lx_run.specs.Steps.{IsDecided};
 
 use lx_clones::clones::started;
 use lx_machine::calls::{LxCall, Stage};
@@ -62,7 +63,8 @@ fn start_at(
     thread: &LxThread,
     call: &mut LxCall,
 ) -> Result<(), LxRefusal>
-    ensures { StartsAt place.old place.new thread.now.regs thread.now.mask call.old call.new result }
+    ensures goes { StartsAt place.old place.new thread.now.regs thread.now.mask call.old call.new result }
+    ensures decided { IsDecided result }
 {
     match place {
         Some(child) => {
@@ -81,7 +83,8 @@ fn start_in(
     thread: &LxThread,
     call: &mut LxCall,
 ) -> Result<(), LxRefusal>
-    ensures { Starts (at_place threads.old at) threads.old threads.new at thread.now.regs thread.now.mask call.old call.new result }
+    ensures goes { Starts (at_place threads.old at) threads.old threads.new at thread.now.regs thread.now.mask call.old call.new result }
+    ensures decided { IsDecided result }
 {
     let at = at as usize;
     if at >= THREADS {
@@ -98,7 +101,8 @@ pub fn start(
     call: &mut LxCall,
     stage: Stage,
 ) -> Result<(), LxRefusal>
-    ensures { CallGoes (machine.start effects stage state.old slot thread.now call.old) state.old state.new slot thread.now thread.now call.old call.new result }
+    ensures goes { CallGoes (machine.start effects stage state.old slot thread.now call.old) state.old state.new slot thread.now thread.now call.old call.new result }
+    ensures decided { IsDecided result }
 {
     let Stage::Start = stage else {
         return Err(LxRefusal::NoStep);

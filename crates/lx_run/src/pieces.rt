@@ -8,6 +8,7 @@ ghost use Rattle.lx_machine.specs.Step.{with_fetched};
 ghost use Rattle.lx_calls.specs.Shape.{fetched, mask_of};
 ghost use Rattle.lx_calls.specs.Table.{effects};
 ghost use Rattle.lx_run.specs.Outcomes.{CallGoes};
+ghost use Rattle.lx_run.specs.Steps.{IsDecided};
 
 use crate::threads::unmark;
 use linux_abi::Call;
@@ -187,7 +188,8 @@ pub fn store(
     call: &mut LxCall,
     stage: Stage,
 ) -> Result<(), LxRefusal>
-    ensures { CallGoes (machine.store effects stage state.old slot thread.now call.old) state.old state.new slot thread.now thread.now call.old call.new result }
+    ensures goes { CallGoes (machine.store effects stage state.old slot thread.now call.old) state.old state.new slot thread.now thread.now call.old call.new result }
+    ensures decided { IsDecided result }
 {
     match stage {
         Stage::Store(p) => {

@@ -8,7 +8,7 @@ ghost use Rattle.lx_calls.specs.Table.{effects};
 ghost use Rattle.lx_calls.specs.Shape.{stage_of};
 ghost use Rattle.lx_run.specs.CallSteps.{call_step, thread_step, is_gone, after_gone};
 ghost use Rattle.lx_run.specs.Outcomes.{CallGoes, ThreadGoes};
-ghost use Rattle.lx_run.specs.Steps.{Steps, IsDecided};
+ghost use Rattle.lx_run.specs.Steps.{Steps, IsDecided, IsDecidedAt};
 
 use crate::life_steps::{all_free, end_guest};
 use crate::{file_steps, futex_steps, life_steps, own_effects, pieces, signal_steps, wait_steps};
@@ -31,7 +31,8 @@ fn step_call(
     stage: Stage,
     label: &Label,
 ) -> Result<(), LxRefusal>
-    ensures { CallGoes (call_step label.now stage state.old slot thread.old call.old) state.old state.new slot thread.old thread.new call.old call.new result }
+    ensures goes { CallGoes (call_step label.now stage state.old slot thread.old call.old) state.old state.new slot thread.old thread.new call.old call.new result }
+    ensures decided { IsDecidedAt label.now result }
 {
     match label {
         Label::Fetch(_) => pieces::fetch(state, alloc, slot, thread, call, stage),
@@ -70,7 +71,8 @@ fn step_thread(
     thread: &mut LxThread,
     label: &Label,
 ) -> Result<(), LxRefusal>
-    ensures { ThreadGoes (of_call stage_of (call_step label.now) state.old slot thread.old) state.old state.new slot thread.old thread.new result }
+    ensures goes { ThreadGoes (of_call stage_of (call_step label.now) state.old slot thread.old) state.old state.new slot thread.old thread.new result }
+    ensures decided { IsDecidedAt label.now result }
 {
     match mem::replace(&mut thread.call, None) {
         Some(mut call) => {
@@ -114,7 +116,8 @@ pub fn in_call(
     slot: u8,
     label: &Label,
 ) -> Result<(), LxRefusal>
-    ensures { Steps (in_call stage_of state.old slot (call_step label.now)) state.old state.new result }
+    ensures steps { Steps (in_call stage_of state.old slot (call_step label.now)) state.old state.new result }
+    ensures decided { IsDecidedAt label.now result }
 {
     let Some(mut thread) = take_from(&mut state.threads, slot) else {
         return Err(LxRefusal::NoStep);

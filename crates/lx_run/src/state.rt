@@ -142,8 +142,8 @@ impl LxState {
     }
 
     /// Takes the step that `label` names. `NoStep`: there is none from this state, as for a guest that has ended.
-    /// `NoMemory`: memory is wanting, which is never so at Return, Take, Frame, Kill, Gone, Time and Drain. After either, the
-    /// state is as it was.
+    /// `NoMemory`: memory is wanting, which is so at Instr, Fetch, Hold, Effect, Move, Clock, Queue, Mark, Interrupt and
+    /// Leave alone. After either, the state is as it was.
     pub fn step(&mut self, alloc: Global, label: &Label) -> Result<(), LxRefusal>
         ensures steps { Steps (table.step self.old.state label.now) self.old.state self.new.state result }
         ensures decided { IsDecidedAt label.now result }

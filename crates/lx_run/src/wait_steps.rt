@@ -7,6 +7,7 @@ ghost use Rattle.lx_calls.specs.Waits as spec;
 ghost use Rattle.lx_machine.specs.Step as machine;
 ghost use Rattle.lx_machine.specs.declared.refusal.LxRefusal.TheVariants.{NoStep};
 ghost use Rattle.lx_run.specs.Outcomes.{CallGoes, GivesUp};
+ghost use Rattle.lx_run.specs.Steps.{IsDecided};
 
 use linux_abi::{Call, LinuxErrno, LinuxSig};
 use lx_epolls::epoll_calls::{epoll_can_move, epoll_expire, epoll_interrupt, set_timeout};
@@ -76,7 +77,8 @@ fn expire_at_file(
     thread: &LxThread,
     call: &mut LxCall,
 ) -> Result<(), LxRefusal>
-    ensures { CallGoes (spec.expire_at_file state.old slot thread.now call.old) state.old state.new slot thread.now thread.now call.old call.new result }
+    ensures goes { CallGoes (spec.expire_at_file state.old slot thread.now call.old) state.old state.new slot thread.now thread.now call.old call.new result }
+    ensures decided { IsDecided result }
 {
     if !has_passed(state.clock, call.deadline) || can_move(&state.files, call) {
         return Err(LxRefusal::NoStep);
@@ -92,7 +94,8 @@ pub fn expire(
     call: &mut LxCall,
     stage: Stage,
 ) -> Result<(), LxRefusal>
-    ensures { CallGoes (spec.expire stage state.old slot thread.now call.old) state.old state.new slot thread.now thread.now call.old call.new result }
+    ensures goes { CallGoes (spec.expire stage state.old slot thread.now call.old) state.old state.new slot thread.now thread.now call.old call.new result }
+    ensures decided { IsDecided result }
 {
     match stage {
         Stage::Wait => wait_expired(state.clock, thread.tid, &mut state.queue, call),

@@ -1,5 +1,5 @@
 //! futex(2): its refusals at entry, its shape, and its steps.
-ghost use Rattle.std.specs.Prelude.{◌≡◌, ◌<◌, ◌^◌, Some, None, IfOk, OnOk, OnErr};
+ghost use Rattle.std.specs.Prelude.{◌≡◌, ◌<◌, ◌^◌, Some, None, IfOk, IfErr, OnOk, OnErr};
 ghost use Rattle.lx_machine.specs.Calls.{first_refusal, low_argument};
 ghost use Rattle.lx_threads.specs.Futexes.{operation_number, has_clock_flag, operation_in, is_wait, has_second, is_unaligned, is_negative, word_operation_in, comparison_in, bit_set_refusals, requeue_refusals, wake_op_refusals, own_refusals, operation_refusals, futex_refusals, is_timed, futex_pieces, futex_fetched, wait_of, wake_of, requeue_of, extended, operand_in, value_in, wake_op_by, wait_from, has_time, futex_stage, deadline_by, futex_clocked, outcome, queued, woken, requeue_releases, moves_on, requeued, requeued_by, operated, compares, wakes_after, word_operated, word_op, resumed, leaves_queue, wait_expired};
 
@@ -468,6 +468,7 @@ pub fn resumed(tid: u32, queue: &Queue, call: &mut LxCall) -> Result<(), LxRefus
     ensures ok { OnOk result (resumed tid queue.now call.old ≡ Some call.new) }
     ensures err { OnErr result (resumed tid queue.now call.old ≡ None) }
     ensures kept { OnErr result (call.new ≡ call.old) }
+    ensures no_step { IfErr result (λ e. e ≡ LxRefusal.NoStep) }
 {
     if !call.waits || queue.has(tid) {
         return Err(LxRefusal::NoStep);
@@ -482,6 +483,7 @@ pub fn leaves_queue(tid: u32, queue: &mut Queue, call: &mut LxCall) -> Result<()
     ensures ok { OnOk result (leaves_queue tid queue.old call.old ≡ Some (outcome queue.new call.new)) }
     ensures err { OnErr result (leaves_queue tid queue.old call.old ≡ None) }
     ensures kept { OnErr result ((queue.new ≡ queue.old) × (call.new ≡ call.old)) }
+    ensures no_step { IfErr result (λ e. e ≡ LxRefusal.NoStep) }
 {
     if !call.waits || !queue.has(tid) {
         return Err(LxRefusal::NoStep);
@@ -501,6 +503,7 @@ pub fn wait_expired(
     ensures ok { OnOk result (wait_expired clock tid queue.old call.old ≡ Some (outcome queue.new call.new)) }
     ensures err { OnErr result (wait_expired clock tid queue.old call.old ≡ None) }
     ensures kept { OnErr result ((queue.new ≡ queue.old) × (call.new ≡ call.old)) }
+    ensures no_step { IfErr result (λ e. e ≡ LxRefusal.NoStep) }
 {
     if !has_passed(clock, call.deadline) || !call.waits || !queue.has(tid) {
         return Err(LxRefusal::NoStep);

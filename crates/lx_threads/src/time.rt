@@ -1,5 +1,5 @@
 //! Timeouts, deadlines and the clock; nanosleep(2) and clock_gettime(2).
-ghost use Rattle.std.specs.Prelude.{◌≡◌, ◌≤◌, ◌+◌, ◌++◌, ◌∷◌, [], Some, None, IfOk, OnOk, OnErr};
+ghost use Rattle.std.specs.Prelude.{◌≡◌, ◌≤◌, ◌+◌, ◌++◌, ◌∷◌, [], Some, None, IfOk, IfErr, OnOk, OnErr};
 ghost use Rattle.places.specs.Places.{bytes_of};
 ghost use Rattle.lx_machine.specs.Calls.{first_refusal};
 ghost use Rattle.lx_machine.specs.Pieces.{piece};
@@ -147,6 +147,7 @@ pub fn nanosleep_expired(clock: u64, call: &mut LxCall) -> Result<(), LxRefusal>
     ensures ok { OnOk result (nanosleep_expired clock call.old ≡ Some call.new) }
     ensures err { OnErr result (nanosleep_expired clock call.old ≡ None) }
     ensures kept { OnErr result (call.new ≡ call.old) }
+    ensures no_step { IfErr result (λ e. e ≡ LxRefusal.NoStep) }
 {
     if !has_passed(clock, call.deadline) {
         return Err(LxRefusal::NoStep);
