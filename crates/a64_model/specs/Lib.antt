@@ -20,4 +20,5 @@ pub mod Registers
 pub mod Reversals
 pub mod Rows
 pub mod Shifts
+pub mod Swaps
 pub mod Widths

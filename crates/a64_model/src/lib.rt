@@ -12,3 +12,4 @@ pub mod operands;
 pub mod read;
 pub mod regs;
 pub mod rows;
+pub mod swaps;

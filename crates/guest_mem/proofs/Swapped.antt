@@ -5,7 +5,7 @@ use Rattle.a64_model.specs.declared.access.Fault.{Fault}
 use Rattle.a64_model.specs.declared.access.SwapOp.{SwapOp}
 use Rattle.page_store.specs.Pages.{Page}
 use Rattle.guest_mem.specs.Held.{Held, stored}
-use Rattle.guest_mem.specs.Swaps.{outcome, has_outcome}
+use Rattle.a64_model.specs.Swaps.{outcome, has_outcome}
 
 abbrev number : ℕ → Result ℕ Fault
 number n = Ok n

@@ -3,8 +3,8 @@ use Rattle.std.specs.Prelude.{◌≡◌, ℕ, ◌+◌, ◌-◌, ◌%◌, ◌<◌
 use Rattle.std.specs.FinMap as map
 use Rattle.std.specs.Coded.{Coded, code_by, coded×, coded_ℕ, coded_list, coded_option}
 use Rattle.places.specs.Places as place
-use Rattle.vm_areas.specs.declared.runs.Rights.{Rights}
-use Rattle.page_store.specs.Pages.{Pages, has_any, changed, with_rights, blanked, written, without, blank, coded_pages}
+use Rattle.page_ranges.specs.declared.rights.Rights.{Rights}
+use Rattle.page_store.specs.Pages.{Pages, has_any, changed, with_rights, blanked, written, without, blank, coded_pages, AreWhole}
 use Rattle.guest_mem.specs.MarkRules.{marks_after, marks_off}
 
 -- which of the 16 shards it is, the kept pages, the marked granule of each slot, and how many more pages
@@ -15,9 +15,16 @@ pub record Held : Type 0 where
   pub marks : List (Option ℕ)
   pub spare : ℕ
 
+-- what is true of every shard: it is one of 16, each kept page has 4096 bytes, and there is a mark, or none, for each of
+-- the 128 slots
+pub record IsShard (held : Held) : Type 0 where
+  pub index : held.index < 16
+  pub whole : AreWhole held.pages
+  pub slots : length held.marks ≡ 128
+
 -- a shard that keeps nothing
 abbrev pub started : ℕ → ℕ → Held
-started index share = record { index = index; pages = map.empty; marks = replicate 32 None; spare = share }
+started index share = record { index = index; pages = map.empty; marks = replicate 128 None; spare = share }
 
 -- a range of one byte or more that lies in one page of this shard
 pub record IsInPage (held : Held) (at len : ℕ) : Type 0 where

@@ -1,5 +1,4 @@
 pub mod MarkRules
-pub mod Swaps
 pub mod Held
 pub mod MarkFields
 pub mod ShardFields

@@ -1,12 +1,11 @@
 // The exclusive marks of the slots.
 
-ghost use Rattle.std.specs.Prelude.{◌≡◌, ℕ, ◌<◌, ◌≤◌, List, map, replicate, Option, slice_index_or, slice_set};
+ghost use Rattle.std.specs.Prelude.{◌≡◌, ℕ, ◌<◌, ◌≤◌, List, length, map, replicate, IfOk, Option, slice_index_or, slice_set, vec_len};
 ghost use Rattle.guest_mem.specs.MarkRules.{mark_after, marks_after, mark_off, marks_off, IsWithin};
 
+use places::limits::SLOTS;
+use std::alloc::{AllocError, Global};
 use std::marker::Model;
-
-// How many threads there are places for.
-pub(crate) const SLOTS: usize = 32;
 
 // How many granules a page has.
 const GRANULES: u64 = 256;
@@ -14,7 +13,7 @@ const GRANULES: u64 = 256;
 // The marked granule of each slot; each of them is from `low` to `high`, so that a write elsewhere looks at none.
 #[derive(Drop)]
 pub(crate) struct Marks {
-    of_slot: [Option<u64>; SLOTS],
+    of_slot: Vec<Option<u64>>,
     low: u64,
     high: u64,
 }
@@ -52,40 +51,50 @@ fn mark_kept(mark: Option<u64>, page: u64) -> Option<u64>
 }
 
 // Ends the marks on the granules from first to last.
-fn end_between(marks: &mut [Option<u64>; SLOTS], first: u64, last: u64)
-    ensures { marks.new ≡ map (mark_after first last) marks.old }
+fn end_between(marks: &mut Vec<Option<u64>>, first: u64, last: u64)
+    ensures items { marks.new.items ≡ map (mark_after first last) marks.old.items }
+    ensures len { vec_len marks.new ≡ vec_len marks.old }
 {
-    for i in 0..SLOTS {
+    for i in 0..marks.len() {
         let left = mark_left(marks[i], first, last);
         marks[i] = left;
     }
 }
 
 // Ends the marks on the page.
-fn end_on(marks: &mut [Option<u64>; SLOTS], page: u64)
-    ensures { marks.new ≡ map (mark_off page) marks.old }
+fn end_on(marks: &mut Vec<Option<u64>>, page: u64)
+    ensures items { marks.new.items ≡ map (mark_off page) marks.old.items }
+    ensures len { vec_len marks.new ≡ vec_len marks.old }
 {
-    for i in 0..SLOTS {
+    for i in 0..marks.len() {
         let left = mark_kept(marks[i], page);
         marks[i] = left;
     }
 }
 
 impl Marks {
-    // No slot has a mark.
-    pub(crate) fn new() -> Marks
-        ensures { result ≡ replicate 32 None }
+    // No slot has a mark. `AllocError`: the room for them is refused.
+    pub(crate) fn make(alloc: Global) -> Result<Marks, AllocError>
+        ensures { IfOk result (λ marks. marks ≡ replicate 128 None) }
     {
-        Marks {
-            of_slot: [None; SLOTS],
+        let of_slot = Vec::from_slice(alloc, &[None; SLOTS])?;
+        Ok(Marks {
+            of_slot,
             low: u64::MAX,
             high: 0,
-        }
+        })
+    }
+
+    // There is a place for the mark of each slot.
+    pub(crate) fn one_a_slot(&self)
+        ensures { length self.now ≡ 128 }
+    {
+        let _low = self.low;
     }
 
     // The granule that the slot has marked.
     pub(crate) fn at(&self, slot: u8) -> Option<u64>
-        requires { slot < 32 }
+        requires { slot < 128 }
         ensures { result ≡ slice_index_or self.now slot None }
     {
         self.of_slot[slot as usize]
@@ -93,7 +102,7 @@ impl Marks {
 
     // The slot marks a granule, in place of the one that it had.
     pub(crate) fn put(&mut self, slot: u8, granule: u64)
-        requires { slot < 32 }
+        requires { slot < 128 }
         ensures { self.new ≡ slice_set self.old slot (Some granule) }
     {
         self.of_slot[slot as usize] = Some(granule);
@@ -104,7 +113,7 @@ impl Marks {
     // The slot writes to the granules from first to last: all other slots' marks there end.
     #[inline(always)]
     pub(crate) fn end_others(&mut self, slot: u8, first: u64, last: u64)
-        requires { slot < 32 }
+        requires { slot < 128 }
         ensures { self.new ≡ marks_after self.old slot first last }
     {
         if last < self.low || self.high < first {

@@ -4,19 +4,18 @@ ghost use Rattle.std.specs.Prelude.{◌≡◌, ℕ, ◌+◌, ◌%◌, ◌<◌, �
 ghost use Rattle.std.specs.FinMap as finite;
 ghost use Rattle.places.specs.Places as place;
 ghost use Rattle.page_store.specs.Pages.{page_for, reads, writes, has_any, IsLeastKept};
-ghost use Rattle.guest_mem.specs.Swaps.{outcome, has_outcome};
-ghost use Rattle.guest_mem.specs.Held.{Held, IsInPage, IsFullFor, started, stored, marked_by, unmapped, zeroed, mapped, protected};
+ghost use Rattle.a64_model.specs.Swaps.{outcome, has_outcome};
+ghost use Rattle.guest_mem.specs.Held.{Held, IsShard, IsInPage, IsFullFor, started, stored, marked_by, unmapped, zeroed, mapped, protected};
 
 use crate::marks::Marks;
-use crate::swaps::{has_outcome_of, outcome_of};
 use a64_model::access::{Fault, SwapOp};
+use a64_model::swaps::{has_outcome_of, outcome_of};
+use page_ranges::Rights;
 use page_store::PageStore;
+use places::granule;
+use places::limits::GRANULE;
 use std::alloc::{AllocError, Global};
 use std::marker::Model;
-use vm_areas::Rights;
-
-// The bytes of a granule.
-const GRANULE: u64 = 16;
 
 /// A page needs room, and none is left.
 #[derive(Clone, Copy, Debug)]
@@ -33,7 +32,7 @@ impl From<AllocError> for NoMemory {
 }
 
 /// The pages of one of the 16 shards of a guest's memory that have had a right since they were mapped, with their
-/// rights and bytes, and for each of 32 slots the granule that it has marked last. Page `p` lies in shard `p % 16`.
+/// rights and bytes, and for each of 128 slots the granule that it has marked last. Page `p` lies in shard `p % 16`.
 #[derive(Drop)]
 pub struct Shard {
     index: u8,
@@ -48,9 +47,11 @@ impl Model for Shard {
 
     ghost coded = { coded_held };
 
-    ghost use Rattle.guest_mem.specs.ShardFields.{held_by};
+    ghost use Rattle.guest_mem.specs.ShardFields.{held_by, IsIndexed};
 
     ghost view = { held_by };
+
+    ghost invariant = { IsIndexed };
 }
 
 // Whether there is any right.
@@ -64,14 +65,25 @@ impl Shard {
     /// The shard of this index (0 to 15), which keeps no page and has room for `share` pages. No other call takes
     /// memory. `NoMemory`: the room for them is refused.
     pub fn make(alloc: Global, index: u8, share: u32) -> Result<Shard, NoMemory>
+        requires { index < 16 }
         ensures { IfOk result (λ shard. shard ≡ started index share) }
     {
         let pages = PageStore::make(alloc, share)?;
+        let marks = Marks::make(alloc)?;
         Ok(Shard {
             index,
             pages,
-            marks: Marks::new(),
+            marks,
         })
+    }
+
+    /// What is true of every shard: its index is below 16, each page that it keeps has 4096 bytes, and there is a place for
+    /// the mark of each of the 128 slots.
+    pub fn law(&self)
+        ensures { IsShard self.now }
+    {
+        self.pages.whole_pages();
+        self.marks.one_a_slot();
     }
 
     /// How many more pages there is room for.
@@ -105,20 +117,20 @@ impl Shard {
         self.pages.load(at, into)
     }
 
-    /// Writes the bytes from the address `at` on, which lie in one page of this shard, for this slot (0 to 31): the
+    /// Writes the bytes from the address `at` on, which lie in one page of this shard, for this slot (0 to 127): the
     /// marks of all other slots on the granules that they touch end. `Fault` at `at`: the page is not kept, or lacks
     /// the right to write; then nothing changes.
     #[inline(always)]
     pub fn store(&mut self, slot: u8, at: u64, bytes: &[u8]) -> Result<(), Fault>
-        requires slot { slot < 32 }
+        requires slot { slot < 128 }
         requires in_page { IsInPage self.old at (length bytes.now) }
         ensures index { self.new.index ≡ self.old.index }
         ensures after { MatchOption (page_for writes self.old.pages at) ((result ≡ Err record { address = at }) × (self.new ≡ self.old)) (λ _. (result ≡ Ok tt) × (self.new ≡ stored self.old slot at bytes.now)) }
     {
         self.pages.store(at, bytes)?;
         let rest = bytes.len() as u64 - 1;
-        let last = at / GRANULE + (at % GRANULE + rest) / GRANULE;
-        self.marks.end_others(slot, at / GRANULE, last);
+        let last = granule(at) + (at % GRANULE + rest) / GRANULE;
+        self.marks.end_others(slot, granule(at), last);
         Ok(())
     }
 
@@ -135,7 +147,7 @@ impl Shard {
         value: u64,
         expected: u64,
     ) -> Result<u64, Fault>
-        requires slot { slot < 32 }
+        requires slot { slot < 128 }
         requires len { (len ≡ 1) ⊎ (len ≡ 2) ⊎ (len ≡ 4) ⊎ (len ≡ 8) }
         requires in_page { IsInPage self.old at len }
         ensures index { self.new.index ≡ self.old.index }
@@ -149,21 +161,21 @@ impl Shard {
         Ok(was)
     }
 
-    /// The slot (0 to 31) marks the granule of the address, in place of the one that it had marked.
+    /// The slot (0 to 127) marks the granule of the address, in place of the one that it had marked.
     pub fn mark(&mut self, slot: u8, at: u64)
-        requires { slot < 32 }
+        requires { slot < 128 }
         ensures { self.new ≡ marked_by self.old slot (place.granule at) }
     {
-        self.marks.put(slot, at / GRANULE);
+        self.marks.put(slot, granule(at));
     }
 
     /// Whether the slot's mark stands on the granule of the address.
     pub fn marked(&self, slot: u8, at: u64) -> bool
-        requires { slot < 32 }
+        requires { slot < 128 }
         ensures { IsTrue result ↔ (slice_index_or self.now.marks slot None ≡ Some (place.granule at)) }
     {
         match self.marks.at(slot) {
-            Some(granule) => granule == at / GRANULE,
+            Some(marked) => marked == granule(at),
             None => false,
         }
     }

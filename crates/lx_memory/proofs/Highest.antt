@@ -45,6 +45,20 @@ module _ (pages : Pages) (count low high : ℕ) where
         (between at page above (omega arith) long le none, λ other higher lt gap. apart other page gap there (omega arith) (omega arith))
   ]
 
+  -- past pages that are all mapped
+  pub past_mapped : (at next : ℕ) (found : Option ℕ) → 0 < count → ((p : ℕ) → at ≤ p → p < next → IsSome (finite.get pages p)) → IsHighestGapBelow pages count low high at found → IsHighestGapBelow pages count low high next found
+  past_mapped at next None some mapped best = λ first below gap. elim (cases_lt first at) as (λ _. ⊥) [
+    | inl lt ↦ best first lt gap
+    | inr from ↦ apart first first gap (mapped first from below) (omega arith) (omega arith)
+  ]
+  past_mapped at next (Some b) some mapped best = (
+    best.0,
+    λ other above below gap. elim (cases_lt other at) as (λ _. ⊥) [
+      | inl lt ↦ best.1 other above lt gap
+      | inr from ↦ apart other other gap (mapped other from below) (omega arith) (omega arith)
+    ],
+  )
+
   rest : (at : ℕ) (found : Option ℕ) → at ≤ high → high - at < count → IsHighestGapBelow pages count low high at found → IsHighestGap pages count low high found
   rest at None le long best = λ first gap. elim (cases_lt first at) as (λ _. ⊥) [
     | inl lt ↦ best first lt gap

@@ -4,7 +4,7 @@ use Rattle.std.specs.FinMap as map
 use Rattle.std.proofs.lemmas.Bool.Decides.{nat_tests}
 use Rattle.places.specs.Places as place
 use Rattle.places.specs.Allowed.{Allowed}
-use Rattle.vm_areas.specs.declared.runs.Rights.{Rights}
+use Rattle.page_ranges.specs.declared.rights.Rights.{Rights}
 use Rattle.page_store.specs.Pages.{Page, Pages}
 use Rattle.lx_memory.specs.Access.{allows, has, lacks, rights_of, IsFirstWithout, IsFirstLacking}
 use Rattle.lx_memory.specs.declared.right.Right.{Right}

@@ -6,3 +6,4 @@ pub mod PastSpace
 pub mod PageTests
 pub mod Lacking
 pub mod HighestGaps
+pub mod Codes

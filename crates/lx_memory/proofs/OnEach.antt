@@ -6,7 +6,7 @@ use Rattle.std.specs.FinMap as finite
 use Rattle.std.specs.FinMap.{same_map, nat_cmp-IsAntisymmetric}
 use Rattle.std.proofs.lemmas.Bool.{cases_eq, cases_lt}
 use Rattle.std.proofs.lemmas.Bool.Decides.{nat_tests}
-use Rattle.vm_areas.specs.PageMap.{within}
+use Rattle.page_ranges.specs.Ranges.{within}
 use Rattle.page_store.specs.Pages.{Page, Pages}
 use Rattle.lx_memory.specs.Ranges.{with_page, on_each, IsOnEach}
 use Rattle.lx_memory.specs.Space.{IsInSpace}

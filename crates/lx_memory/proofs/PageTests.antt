@@ -3,7 +3,7 @@ use Rattle.std.proofs.Common.{◌≡◌, ℕ, zero, suc, ◌+◌, ◌<◌, ◌�
 use Rattle.std.specs.Bool.{Decides}
 use Rattle.std.specs.FinMap as map
 use Rattle.std.proofs.lemmas.Bool.Decides.{same_from_decides}
-use Rattle.vm_areas.specs.Ranges.{EachPage, SomePage}
+use Rattle.page_ranges.specs.Ranges.{EachPage, SomePage}
 use Rattle.page_store.specs.Pages.{Page, Pages}
 use Rattle.lx_memory.specs.Access.{allows, has}
 use Rattle.lx_memory.specs.Gaps.{IsMappedAt, IsFreeAt, IsExecutableAt}

@@ -1,7 +1,7 @@
 -- A range that runs past the address space.
 use Rattle.std.proofs.Common.{ℕ, zero, suc, ◌+◌, ◌^◌, ◌<◌, ◌↔◌, IsTrue, nat_eq, arith, rules}
 use Rattle.std.proofs.lemmas.Bool.Decides.{nat_tests}
-use Rattle.vm_areas.specs.Ranges.{EachPage}
+use Rattle.page_ranges.specs.Ranges.{EachPage}
 use Rattle.page_store.specs.Pages.{Pages}
 use Rattle.lx_memory.specs.Gaps.{IsMappedAt}
 use Rattle.lx_memory.specs.Space.{IsInSpace}

@@ -4,7 +4,7 @@ use Rattle.std.specs.Prelude.{◌≡◌, ℕ, ◌+◌, ◌%◌, ◌^◌, ◌<◌
 use Rattle.std.specs.FinMap as map
 use Rattle.places.specs.Places.{page}
 use Rattle.places.specs.Allowed.{Allowed}
-use Rattle.vm_areas.specs.declared.runs.Rights.{Rights}
+use Rattle.page_ranges.specs.declared.rights.Rights.{Rights}
 use Rattle.page_store.specs.Pages.{Page, Pages}
 use Rattle.lx_memory.specs.declared.right.Right.{Right}
 use Rattle.lx_memory.specs.declared.right.Right.TheVariants.{Read, Write, Execute}

@@ -2,7 +2,7 @@
 -- Source: mmap(2); that the highest free range is taken is this project's own.
 use Rattle.std.specs.Prelude.{◌≡◌, ℕ, ◌+◌, ◌<◌, ◌≤◌, true, Option, Some, None, IsSome}
 use Rattle.std.specs.FinMap as map
-use Rattle.vm_areas.specs.Ranges.{EachPage}
+use Rattle.page_ranges.specs.Ranges.{EachPage}
 use Rattle.page_store.specs.Pages.{Pages}
 use Rattle.lx_memory.specs.declared.right.Right.TheVariants.{Execute}
 use Rattle.lx_memory.specs.Access.{allows, has}

@@ -5,3 +5,4 @@ pub mod Gaps
 pub mod Queries
 pub mod Space
 pub mod MemoryFields
+pub mod Codes

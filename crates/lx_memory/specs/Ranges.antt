@@ -2,8 +2,8 @@
 -- Source: mmap(2), munmap(2), mprotect(2), and madvise(2) for MADV_DONTNEED, which leaves zeros.
 use Rattle.std.specs.Prelude.{◌≡◌, ℕ, zero, suc, ◌+◌, Option, Some, None, option_map, if◌then◌else◌}
 use Rattle.std.specs.FinMap as map
-use Rattle.vm_areas.specs.declared.runs.Rights.{Rights}
-use Rattle.vm_areas.specs.PageMap.{within}
+use Rattle.page_ranges.specs.declared.rights.Rights.{Rights}
+use Rattle.page_ranges.specs.Ranges.{within}
 use Rattle.page_store.specs.Pages.{Page, Pages, blank, blanked, with_rights}
 
 -- a page of zeros with these rights, whatever was there (mmap(2), MAP_ANONYMOUS and MAP_FIXED)

@@ -5,9 +5,7 @@ ghost use Rattle.lx_memory.specs.Bytes.{IsMapped, bytes_at, with_bytes};
 ghost use Rattle.lx_memory.specs.Space.{IsInSpace};
 
 use page_store::PageStore;
-
-// The bytes of a page.
-const PAGE: u64 = 4096;
+use places::limits::PAGE;
 
 // How many of so many bytes from an address on lie in its page.
 fn piece(at: u64, len: usize) -> usize

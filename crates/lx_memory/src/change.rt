@@ -6,8 +6,8 @@ ghost use Rattle.page_store.specs.Pages.{Pages};
 ghost use Rattle.lx_memory.specs.Ranges.{with_page, anew, IsOnEach};
 ghost use Rattle.lx_memory.specs.Space.{IsInSpace, becomes, one_if_free, free_count};
 
+use page_ranges::Rights;
 use page_store::PageStore;
-use vm_areas::Rights;
 
 // What becomes of a mapped page.
 #[derive(Clone, Copy)]

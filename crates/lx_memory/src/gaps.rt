@@ -1,20 +1,18 @@
 // What holds of the pages of a range, and free ranges.
 
 ghost use Rattle.std.specs.Prelude.{◌≡◌, ℕ, ◌+◌, ◌-◌, ◌^◌, ◌≤◌, ◌↔◌, IsTrue, Some, None, nat_le, if◌then◌else◌};
-ghost use Rattle.vm_areas.specs.Ranges.{EachPage, SomePage};
+ghost use Rattle.page_ranges.specs.Ranges.{EachPage, SomePage};
 ghost use Rattle.lx_memory.specs.Gaps.{IsMappedAt, IsExecutableAt, IsHighestGap};
 ghost use Rattle.lx_memory.specs.Space.{IsInSpace};
 
 use page_store::PageStore;
-
-// The pages that 64-bit addresses have.
-const PAGES: u64 = 1 << 52;
+use places::limits::PAGES_END;
 
 // Whether a range ends in the address space.
 pub(crate) fn is_in_space(first: u64, count: u64) -> bool
     ensures { IsTrue result ↔ (first + count ≤ 2 ^ 52) }
 {
-    first <= PAGES && count <= PAGES - first
+    first <= PAGES_END && count <= PAGES_END - first
 }
 
 // Whether each page of a range is mapped.
@@ -72,17 +70,21 @@ fn higher(found: Option<u64>, count: u64, from: u64, to: u64) -> Option<u64>
     }
 }
 
-// The greatest first page of a free range.
+// The greatest first page of a free range. The pages that are mapped one behind the other are passed at once.
 pub(crate) fn highest_free(pages: &PageStore, count: u64, low: u64, high: u64) -> Option<u64>
     requires space { IsInSpace pages.now.pages }
     requires order { low ≤ high }
     ensures { IsHighestGap pages.now.pages count low high result }
 {
+    if count == 0 {
+        return Some(high);
+    }
     let mut found = None;
     let mut at = low;
     while let Some(page) = pages.next_kept(at, high - at) {
         found = higher(found, count, at, page);
-        at = page + 1;
+        let run = pages.kept_run(page + 1);
+        at = high.min((page + 1).saturating_add(run));
     }
     higher(found, count, at, high)
 }

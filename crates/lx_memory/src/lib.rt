@@ -10,8 +10,6 @@ mod gaps;
 mod memory;
 pub mod queries;
 mod right;
-#[cfg(test)]
-mod tests;
 
 pub use crate::memory::{Memory, NoMemory};
 pub use crate::right::Right;

@@ -7,16 +7,12 @@ use crate::bytes::{load_pieces, store_pieces};
 use crate::change::{Change, change_each, count_mapped, map_each};
 use crate::gaps::{each_mapped, highest_free, is_in_space, some_executable};
 use crate::right::{Right, page_without};
+use page_ranges::Rights;
 use page_store::PageStore;
+use places::limits::{PAGE, PAGES_END};
+use places::page;
 use std::alloc::{AllocError, Global};
 use std::marker::Model;
-use vm_areas::Rights;
-
-// The bytes of a page.
-const PAGE: u64 = 4096;
-
-// The first page number that is past the pages of 64-bit addresses.
-const PAGES_END: u64 = 1 << 52;
 
 /// There is no memory for a `Memory`, or no room for pages.
 #[derive(Clone, Copy, Debug, PartialEq, Eq)]
@@ -51,7 +47,7 @@ impl Model for Memory {
 }
 
 impl Memory {
-    ghost use Rattle.vm_areas.specs.Ranges.{EachPage, SomePage};
+    ghost use Rattle.page_ranges.specs.Ranges.{EachPage, SomePage};
     ghost use Rattle.lx_memory.specs.Access.{allows, rights_of, IsFirstLacking};
     ghost use Rattle.lx_memory.specs.Bytes.{IsMapped, bytes_at, with_bytes};
     ghost use Rattle.lx_memory.specs.Gaps.{IsMappedAt, IsFreeAt, IsExecutableAt, IsHighestGap};
@@ -83,9 +79,9 @@ impl Memory {
         if len == 0 {
             return None;
         }
-        let first = at / PAGE;
+        let first = page(at);
         let last = match at.checked_add(len - 1) {
-            Some(address) => address / PAGE,
+            Some(address) => page(address),
             None => PAGES_END,
         };
         match page_without(&self.pages, right, first, last - first + 1) {

@@ -4,8 +4,8 @@ ghost use Rattle.std.specs.Prelude.{◌≡◌, ◌+◌, ◌^◌, ◌≤◌, opti
 ghost use Rattle.lx_memory.specs.Access.{allows, IsFirstPageWithout};
 ghost use Rattle.lx_memory.specs.Space.{IsInSpace};
 
+use page_ranges::Rights;
 use page_store::PageStore;
-use vm_areas::Rights;
 
 /// What an access does with the bytes of a page (mmap(2): `PROT_READ`, `PROT_WRITE`, `PROT_EXEC`).
 #[derive(Clone, Copy, Debug, PartialEq, Eq)]

@@ -2,7 +2,7 @@
 use Rattle.std.proofs.Common.{◌≡◌, ℕ, Some, None, Option, is_some, true, refl, ap, ◌∙◌}
 use Rattle.std.specs.FinMap as finite
 use Rattle.sorted_entries.proofs.Entries.{get_inserted, insert_twice}
-use Rattle.vm_areas.specs.declared.runs.Rights.{Rights}
+use Rattle.page_ranges.specs.declared.rights.Rights.{Rights}
 use Rattle.page_store.specs.Pages.{Page, Pages, blank, blanked, with_rights, changed, changed_at}
 
 -- a kept page is changed in its place

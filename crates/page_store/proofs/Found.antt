@@ -1,14 +1,15 @@
 -- What a store's fields say of a page.
-use Rattle.std.proofs.Common.{◌≡◌, ◌≢◌, ℕ, zero, suc, ◌<◌, ◌≤◌, List, [], ◌∷◌, length, get_or, set, Some, None, Option, Bool, true, false, not, IsSome, if◌then◌else◌, refl, sym, ap, ◌∙◌, arith, inl, inr}
+use Rattle.std.proofs.Common.{◌≡◌, ◌≢◌, ℕ, zero, suc, ◌+◌, ◌-◌, ◌<◌, ◌≤◌, List, [], ◌∷◌, length, get_or, set, Some, None, Option, Bool, true, false, not, IsSome, if◌then◌else◌, refl, sym, ap, ◌∙◌, arith, inl, inr}
 use Rattle.std.specs.FinMap as finite
 use Rattle.std.specs.List.{insert, remove}
 use Rattle.std.proofs.lemmas.Bool.{cases_lt}
-use Rattle.vm_areas.specs.declared.runs.Rights.{Rights}
+use Rattle.page_ranges.specs.declared.rights.Rights.{Rights}
 use Rattle.sorted_entries.specs.Entries.{IsRising, IsAt, IsGapFor, entries_of}
 use Rattle.sorted_entries.proofs.Entries.{get_at, get_in_gap, map_of-set, map_of-insert, map_of-remove, map_of-revalued, IsRevalued}
-use Rattle.page_store.specs.declared.page_store.Kept.{Kept}
+use Rattle.page_store.specs.declared.kept_row.Kept.{Kept}
 use Rattle.page_store.specs.Pages.{Page, page_if}
 use Rattle.page_store.specs.Frames.{times, AgreeBut}
+use Rattle.page_store.specs.Row.{IsRun}
 use Rattle.page_store.specs.Kept.{number_of, frame_of, page_in, pages_of}
 use Rattle.page_store.proofs.Owned.{one_if-same, one_if-zero, times-at}
 
@@ -45,6 +46,27 @@ gap_between ks first p i rising gap le below = record {
 
 pub none_between : (frames : List (List ℕ)) (ks : List Kept) (first p i : ℕ) → IsRising number_of ks → IsGapFor number_of ks first i → first ≤ p → ((d : Kept) → i < length ks → p < number_of (get_or ks i d)) → finite.get (pages_of frames ks) p ≡ None
 none_between frames ks first p i rising gap le below = page_missing frames ks p i (gap_between ks first p i rising gap le below)
+
+pub run_kept : (frames : List (List ℕ)) (ks : List Kept) (place first n : ℕ) → IsRising number_of ks → place + n ≤ length ks → IsRun ks place first n → (p : ℕ) → first ≤ p → p < first + n → IsSome (finite.get (pages_of frames ks) p)
+run_kept frames ks place first n rising within run p from below =
+    is_kept frames ks p (place + (p - first)) rising record { in_range = omega arith; has_key = λ d. omega (arith, run (p - first) d (omega arith)) }
+
+-- and the next one has another
+pub run_ends : (frames : List (List ℕ)) (ks : List Kept) (place first n : ℕ) → 0 < n → IsRising number_of ks → place + n ≤ length ks → IsRun ks place first n → ((d : Kept) → place + n < length ks → number_of (get_or ks (place + n) d) - first ≢ n) → finite.get (pages_of frames ks) (first + n) ≡ None
+run_ends frames ks place first n some rising within run other =
+    let last : (d : Kept) → number_of (get_or ks (place + (n - 1)) d) ≡ first + (n - 1) = λ d. run (n - 1) d (omega arith) in
+    let next : (d : Kept) → place + n < length ks → first + n < number_of (get_or ks (place + n) d) = λ d lt. grind (arith, other d lt, last d, rising (place + (n - 1)) (place + n) d (omega arith) lt) in
+    page_missing frames ks (first + n) (place + n) record {
+      in_range = within;
+      smaller_before = λ j d lt. elim (cases_lt j (place + (n - 1))) as (λ _. number_of (get_or ks j d) < first + n) [
+        | inl below ↦ omega (arith, rising j (place + (n - 1)) d below (omega arith), last d)
+        | inr from ↦ (let same : j ≡ place + (n - 1) = omega arith in rw same (omega (arith, last d)))
+      ];
+      greater_after = λ j d from lt. elim (cases_lt (place + n) j) as (λ _. first + n < number_of (get_or ks j d)) [
+        | inl above ↦ omega (arith, rising (place + n) j d above lt, next d (omega arith))
+        | inr to ↦ (let same : j ≡ place + n = omega arith in rw same (next d (omega arith)))
+      ];
+    }
 
 pub not_true : (b : Bool) → not b ≡ true → b ≡ false
 not_true true is = absurd (cc)

@@ -1,3 +1,5 @@
 pub mod Owned
 pub mod Found
 pub mod Changed
+pub mod RowEdits
+pub mod Whole

@@ -2,7 +2,7 @@
 use Rattle.std.proofs.Common.{◌≡◌, ◌≢◌, ℕ, zero, suc, ◌+◌, ◌<◌, ◌≤◌, List, [], ◌∷◌, ◌++◌, length, set, get_or, refl, sym, ap, arith}
 use Rattle.std.specs.List.{insert, remove}
 use Rattle.std.proofs.lemmas.Bool.Decides.{nat_tests}
-use Rattle.page_store.specs.declared.page_store.Kept.{Kept}
+use Rattle.page_store.specs.declared.kept_row.Kept.{Kept}
 use Rattle.page_store.specs.Frames.{one_if, times, one_below, itself}
 use Rattle.page_store.specs.Kept.{frame_of}
 

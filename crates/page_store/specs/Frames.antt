@@ -1,5 +1,5 @@
 -- Frames: places for the bytes of a page, each of which belongs to one kept page or is free.
-use Rattle.std.specs.Prelude.{◌≡◌, ◌≢◌, ℕ, ◌+◌, ◌==◌, List, [], ◌∷◌, slice_index_or, nat_lt, if◌then◌else◌}
+use Rattle.std.specs.Prelude.{◌≡◌, ◌≢◌, ℕ, ◌+◌, ◌==◌, List, [], ◌∷◌, length, slice_index_or, nat_lt, if◌then◌else◌}
 use Rattle.page_store.specs.Pages.{blank}
 
 -- 1 where the two numbers are one
@@ -27,3 +27,8 @@ pub record IsTaken (old_frames : List (List ℕ)) (old_count : ℕ) (old_free : 
   pub zeros : slice_index_or new_frames frame [] ≡ blank
   pub others : AgreeBut frame old_frames new_frames
   pub owner : (f : ℕ) → times itself f new_free + one_below f old_count + one_if frame f ≡ times itself f old_free + one_below f new_count
+
+-- each frame has the bytes of a page
+abbrev pub IsWhole : List (List ℕ) → Type 0
+IsWhole [] = Unit {0}
+IsWhole (bytes ∷ frames) = (length bytes ≡ 4096) × IsWhole frames

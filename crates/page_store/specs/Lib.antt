@@ -1,3 +1,4 @@
 pub mod Pages
 pub mod Frames
+pub mod Row
 pub mod Kept

@@ -6,7 +6,8 @@ use Rattle.std.specs.FinMap as map
 use Rattle.std.specs.FinMap.{FinMap}
 use Rattle.std.specs.Coded.{Coded, code_by, coded×, coded_ℕ, coded_bool, coded_list}
 use Rattle.places.specs.Places as place
-use Rattle.vm_areas.specs.declared.runs.Rights.{Rights}
+use Rattle.page_ranges.specs.Ranges.{EachPage}
+use Rattle.page_ranges.specs.declared.rights.Rights.{Rights}
 
 -- what a kept page allows, and its 4096 bytes
 pub record Page : Type 0 where
@@ -89,6 +90,15 @@ without keeping number = record {
 abbrev pub IsLeastKept : Pages → ℕ → ℕ → Option ℕ → Type 0
 IsLeastKept pages first count None = (p : ℕ) → first ≤ p → p < first + count → map.get pages p ≡ None
 IsLeastKept pages first count (Some least) = (first ≤ least) × (least < first + count) × IsSome (map.get pages least) × ((p : ℕ) → first ≤ p → p < least → map.get pages p ≡ None)
+
+-- so many pages from the first on are kept, and the page behind them is not
+pub record IsKeptRun (pages : Pages) (first count : ℕ) : Type 0 where
+  pub kept : EachPage first count (λ p. IsSome (map.get pages p))
+  pub end : map.get pages (first + count) ≡ None
+
+-- each kept page has 4096 bytes
+abbrev pub AreWhole : Pages → Type 0
+AreWhole pages = (number : ℕ) (page : Page) → map.get pages number ≡ Some page → length page.bytes ≡ 4096
 
 abbrev pub coded_rights : Coded Rights
 coded_rights = code_by (Bool × (Bool × Bool)) (coded× coded_bool (coded× coded_bool coded_bool)) (λ r. (r.read, (r.write, r.execute))) (λ p. record { read = p.0; write = p.1.0; execute = p.1.1 }) (λ _. refl)

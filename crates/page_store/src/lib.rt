@@ -5,6 +5,7 @@
 //! that is left. The proof of the representation stays in this crate.
 #![tactic(auto)]
 
+mod kept_row;
 mod page_store;
 
 pub use crate::page_store::PageStore;

@@ -5,31 +5,18 @@ ghost use Rattle.std.specs.List.{insert, remove};
 ghost use Rattle.std.specs.FinMap as finite;
 ghost use Rattle.places.specs.Places as place;
 ghost use Rattle.sorted_entries.specs.Entries.{IsRising, IsAt, IsGapFor};
-ghost use Rattle.page_store.specs.Pages.{Keeping, page_for, reads, writes, blank, spliced, with_rights, blanked, written, with_changed, with_added, without, IsLeastKept};
-ghost use Rattle.page_store.specs.Frames.{times, itself, IsTaken};
+ghost use Rattle.page_store.specs.Pages.{Keeping, page_for, reads, writes, blank, spliced, with_rights, blanked, written, with_changed, with_added, without, IsLeastKept, IsKeptRun, AreWhole};
+ghost use Rattle.page_store.specs.Frames.{times, itself, IsTaken, IsWhole};
 
+use crate::kept_row::{Kept, KeptRow};
 use a64_model::access::Fault;
 use byteorder::{ByteOrder, LittleEndian};
+use page_ranges::Rights;
 use std::alloc::{AllocError, Global};
 use std::marker::Model;
-use vm_areas::Rights;
 
 // The bytes of a page.
 const PAGE: usize = 4096;
-
-// The pages that one store keeps often lie so far apart.
-const STRIDE: u64 = 16;
-
-// How many places are kept for a first look.
-const HINTS: usize = 1024;
-
-// A kept page: its number, its rights, and the frame that has its bytes.
-#[derive(Clone, Copy)]
-pub(crate) struct Kept {
-    page: u64,
-    rights: Rights,
-    frame: usize,
-}
 
 /// Pages of 4096 bytes by their numbers, each with its rights, and room for more. Contracts see it as a `Keeping`
 /// (`specs/Pages.antt`). A page is named by its number, any `u64`; an address `at` lies in page `at / 4096`. Only `make`
@@ -37,14 +24,12 @@ pub(crate) struct Kept {
 #[derive(Drop)]
 pub struct PageStore {
     // In order of the pages.
-    kept: Vec<Kept>,
+    kept: KeptRow,
     // Those used so far.
     frames: Vec<[u8; PAGE]>,
     // Those of them that no page has.
     free: Vec<usize>,
     spare: u32,
-    // For a part of a page's number the place where such a page was kept last.
-    hints: Vec<u32>,
 }
 
 impl Model for PageStore {
@@ -61,70 +46,29 @@ impl Model for PageStore {
     ghost invariant = { IsSound };
 }
 
-// The place of a page among the kept ones, or where it would go.
-fn place_of(kept: &[Kept], page: u64) -> Result<usize, usize>
-    requires { IsRising (λ k. k.page) kept.now }
-    ensures found { IfOk result (IsAt (λ k. k.page) kept.now page) }
-    ensures absent { IfErr result (IsGapFor (λ k. k.page) kept.now page) }
-{
-    kept.binary_search_by_key(&page, |k| k.page)
-}
-
-// Where the place of a page is noted.
-#[inline(always)]
-fn hint_of(page: u64) -> usize
-    ensures { result < HINTS }
-{
-    (page / STRIDE) as usize % HINTS
-}
-
-// The same as `place_of`, where the noted place is looked at first.
-#[inline(always)]
-fn hinted_place(kept: &[Kept], hints: &[u32], page: u64) -> Result<usize, usize>
-    requires { IsRising (λ k. k.page) kept.now }
-    ensures found { IfOk result (IsAt (λ k. k.page) kept.now page) }
-    ensures absent { IfErr result (IsGapFor (λ k. k.page) kept.now page) }
-{
-    let hint = hint_of(page);
-    if hint < hints.len() {
-        let place = hints[hint] as usize;
-        if place < kept.len() && kept[place].page == page {
-            return Ok(place);
-        }
-    }
-    place_of(kept, page)
-}
-
-// Notes the places of the pages from one on.
-fn note_places(hints: &mut [u32], kept: &[Kept], from: usize) {
-    for place in from..kept.len() {
-        let hint = hint_of(kept[place].page);
-        if hint < hints.len() {
-            hints[hint] = u32::try_from(place).unwrap_or(u32::MAX);
-        }
-    }
-}
-
 // Writes bytes over those from a place on. A frame has 4096 bytes.
 #[inline(always)]
 fn splice(frame: &mut [u8; PAGE], from: usize, bytes: &[u8])
     requires { from + length bytes.now ≤ PAGE }
     ensures after { frame.new ≡ spliced frame.old from bytes.now }
     ensures whole { length frame.old ≡ PAGE }
+    ensures whole_after { length frame.new ≡ PAGE }
 {
     frame[from..from + bytes.len()].copy_from_slice(bytes);
 }
 
 // Makes a frame zeros.
 fn blank_out(frame: &mut [u8; PAGE])
-    ensures { frame.new ≡ blank }
+    ensures zeros { frame.new ≡ blank }
+    ensures whole { length frame.new ≡ PAGE }
 {
     frame.fill(0);
 }
 
 // A frame of zeros.
 fn blank_frame() -> [u8; PAGE]
-    ensures { result ≡ blank }
+    ensures zeros { result ≡ blank }
+    ensures whole { length result ≡ PAGE }
 {
     [0; PAGE]
 }
@@ -134,6 +78,7 @@ fn take_frame(frames: &mut Vec<[u8; PAGE]>, free: &mut Vec<usize>) -> usize
     requires free { (f : ℕ) → 0 < times itself f free.old.items → f < vec_len frames.old }
     requires room { (0 < vec_len free.old) ⊎ (vec_len frames.old < vec_capacity frames.old) }
     ensures taken { IsTaken frames.old.items (vec_len frames.old) free.old.items frames.new.items (vec_len frames.new) free.new.items result }
+    ensures whole { IsWhole frames.old.items → IsWhole frames.new.items }
     ensures count { vec_len free.new + vec_len frames.old + 1 ≡ vec_len free.old + vec_len frames.new }
     ensures first_use { vec_len frames.new + min (vec_len free.old) 1 ≡ vec_len frames.old + 1 }
     ensures frames_room { vec_capacity frames.old ≤ vec_capacity frames.new }
@@ -152,34 +97,19 @@ fn take_frame(frames: &mut Vec<[u8; PAGE]>, free: &mut Vec<usize>) -> usize
     }
 }
 
-// Adds a page to the kept ones, for which there is room.
-fn put_in(kept: &mut Vec<Kept>, place: usize, new: Kept)
-    requires place { place ≤ vec_len kept.old }
-    requires room { vec_len kept.old < vec_capacity kept.old }
-    ensures items { kept.new.items ≡ insert kept.old.items place new }
-    ensures len { vec_len kept.new ≡ vec_len kept.old + 1 }
-    ensures capacity { vec_capacity kept.old ≤ vec_capacity kept.new }
-{
-    let Ok(()) = kept.insert(place, new) else {
-        unreachable!()
-    };
-}
-
 impl PageStore {
     /// A store that keeps no page and has room for `share` pages. `AllocError`: the room for them is refused.
     pub fn make(alloc: Global, share: u32) -> Result<PageStore, AllocError>
         ensures { IfOk result (λ s. s ≡ record { pages = finite.empty; spare = share }) }
     {
-        let kept = Vec::with_capacity(alloc, share as usize)?;
+        let kept = KeptRow::make(alloc, share)?;
         let frames = Vec::with_capacity(alloc, share as usize)?;
         let free = Vec::with_capacity(alloc, share as usize)?;
-        let hints = vec![in alloc; 0; HINTS]?;
         Ok(PageStore {
             kept,
             frames,
             free,
             spare: share,
-            hints,
         })
     }
 
@@ -190,12 +120,19 @@ impl PageStore {
         self.spare
     }
 
+    /// Each kept page has 4096 bytes.
+    pub fn whole_pages(&self)
+        ensures { AreWhole self.now.pages }
+    {
+        let _spare = self.spare;
+    }
+
     /// The rights of a page; `None` exactly where it is not kept.
     pub fn rights(&self, page: u64) -> Option<Rights>
         ensures { result ≡ option_map (λ p. p.rights) (finite.get self.now.pages page) }
     {
-        match place_of(&self.kept, page) {
-            Ok(place) => Some(self.kept[place].rights),
+        match self.kept.place_of(page) {
+            Ok(place) => Some(self.kept.at(place).rights),
             Err(_) => None,
         }
     }
@@ -204,13 +141,30 @@ impl PageStore {
     pub fn next_kept(&self, first: u64, pages: u64) -> Option<u64>
         ensures { IsLeastKept self.now.pages first pages result }
     {
-        match place_of(&self.kept, first) {
+        match self.kept.place_of(first) {
             Ok(_) => if pages > 0 { Some(first) } else { None },
-            Err(place) => match self.kept.get(place) {
-                Some(kept) if kept.page - first < pages => Some(kept.page),
-                _ => None,
-            },
+            Err(place) => {
+                if place >= self.kept.len() {
+                    return None;
+                }
+                let kept = self.kept.at(place);
+                if kept.page - first < pages {
+                    Some(kept.page)
+                } else {
+                    None
+                }
+            }
         }
+    }
+
+    /// How many pages from `first` on are kept one behind the other; 0 exactly where that page is not kept.
+    pub fn kept_run(&self, first: u64) -> u64
+        ensures { IsKeptRun self.now.pages first result }
+    {
+        let Ok(place) = self.kept.place_of(first) else {
+            return 0;
+        };
+        self.kept.run_at(place, first) as u64
     }
 
     /// Reads the bytes from the address `at` on, which lie in one page. `Fault` at `at`: the page is not kept, or lacks the
@@ -220,10 +174,10 @@ impl PageStore {
         requires { at % 4096 + length into.old ≤ 4096 }
         ensures { MatchOption (page_for reads self.now.pages at) ((result ≡ Err record { address = at }) × (into.new ≡ into.old)) (λ page. (result ≡ Ok tt) × (into.new ≡ slice_range page.bytes (at % 4096) (at % 4096 + length into.old))) }
     {
-        let Ok(place) = hinted_place(&self.kept, &self.hints, at / PAGE as u64) else {
+        let Ok(place) = self.kept.hinted_place(at / PAGE as u64) else {
             return Err(Fault { address: at });
         };
-        let kept = self.kept[place];
+        let kept = self.kept.at(place);
         if !kept.rights.read {
             return Err(Fault { address: at });
         }
@@ -241,10 +195,10 @@ impl PageStore {
         requires in_page { at % 4096 + len ≤ 4096 }
         ensures { MatchOption (page_for writes self.now.pages at) (result ≡ Err record { address = at }) (λ page. result ≡ Ok (place.number_at page.bytes (at % 4096) len)) }
     {
-        let Ok(place) = hinted_place(&self.kept, &self.hints, at / PAGE as u64) else {
+        let Ok(place) = self.kept.hinted_place(at / PAGE as u64) else {
             return Err(Fault { address: at });
         };
-        let kept = self.kept[place];
+        let kept = self.kept.at(place);
         if !kept.rights.write {
             return Err(Fault { address: at });
         }
@@ -260,10 +214,10 @@ impl PageStore {
         requires { at % 4096 + length bytes.now ≤ 4096 }
         ensures { MatchOption (page_for writes self.old.pages at) ((result ≡ Err record { address = at }) × (self.new ≡ self.old)) (λ page. (result ≡ Ok tt) × (self.new ≡ with_changed self.old (place.page at) (written (at % 4096) bytes.now))) }
     {
-        let Ok(place) = hinted_place(&self.kept, &self.hints, at / PAGE as u64) else {
+        let Ok(place) = self.kept.hinted_place(at / PAGE as u64) else {
             return Err(Fault { address: at });
         };
-        let kept = self.kept[place];
+        let kept = self.kept.at(place);
         if !kept.rights.write {
             return Err(Fault { address: at });
         }
@@ -282,10 +236,10 @@ impl PageStore {
         requires { at % 4096 + length into.old ≤ 4096 }
         ensures { MatchOption (finite.get self.now.pages (place.page at)) ((result ≡ false) × (into.new ≡ into.old)) (λ page. (result ≡ true) × (into.new ≡ slice_range page.bytes (at % 4096) (at % 4096 + length into.old))) }
     {
-        let Ok(place) = hinted_place(&self.kept, &self.hints, at / PAGE as u64) else {
+        let Ok(place) = self.kept.hinted_place(at / PAGE as u64) else {
             return false;
         };
-        let kept = self.kept[place];
+        let kept = self.kept.at(place);
         let from = (at % PAGE as u64) as usize;
         let frame = &self.frames[kept.frame];
         into.copy_from_slice(&frame[from..from + into.len()]);
@@ -301,10 +255,10 @@ impl PageStore {
         ensures after { self.new ≡ with_changed self.old (place.page at) (written (at % 4096) bytes.now) }
         ensures whole { IfSome (finite.get self.old.pages (place.page at)) (λ page. length page.bytes ≡ 4096) }
     {
-        let Ok(place) = hinted_place(&self.kept, &self.hints, at / PAGE as u64) else {
+        let Ok(place) = self.kept.hinted_place(at / PAGE as u64) else {
             return false;
         };
-        let kept = self.kept[place];
+        let kept = self.kept.at(place);
         splice(
             &mut self.frames[kept.frame],
             (at % PAGE as u64) as usize,
@@ -318,10 +272,10 @@ impl PageStore {
         ensures kept { result ≡ finite.contains_key self.old.pages page }
         ensures after { self.new ≡ with_changed self.old page (with_rights rights) }
     {
-        let Ok(place) = place_of(&self.kept, page) else {
+        let Ok(place) = self.kept.place_of(page) else {
             return false;
         };
-        self.kept[place].rights = rights;
+        self.kept.set_rights(place, rights);
         true
     }
 
@@ -330,10 +284,10 @@ impl PageStore {
         ensures kept { result ≡ finite.contains_key self.old.pages page }
         ensures after { self.new ≡ with_changed self.old page blanked }
     {
-        let Ok(place) = place_of(&self.kept, page) else {
+        let Ok(place) = self.kept.place_of(page) else {
             return false;
         };
-        let kept = self.kept[place];
+        let kept = self.kept.at(place);
         blank_out(&mut self.frames[kept.frame]);
         true
     }
@@ -343,15 +297,14 @@ impl PageStore {
         ensures room { result ≡ (not (finite.contains_key self.old.pages page) && nat_lt 0 self.old.spare) }
         ensures after { self.new ≡ (if result then with_added self.old page rights else self.old) }
     {
-        let Err(place) = place_of(&self.kept, page) else {
+        let Err(place) = self.kept.place_of(page) else {
             return false;
         };
         if self.spare == 0 {
             return false;
         }
         let frame = take_frame(&mut self.frames, &mut self.free);
-        put_in(
-            &mut self.kept,
+        self.kept.insert(
             place,
             Kept {
                 page,
@@ -360,7 +313,6 @@ impl PageStore {
             },
         );
         self.spare -= 1;
-        note_places(&mut self.hints, &self.kept, place);
         true
     }
 
@@ -368,12 +320,11 @@ impl PageStore {
     pub fn give_up(&mut self, page: u64)
         ensures { self.new ≡ without self.old page }
     {
-        let Ok(place) = place_of(&self.kept, page) else {
+        let Ok(place) = self.kept.place_of(page) else {
             return;
         };
         let kept = self.kept.remove(place);
         self.free.push_reserved(kept.frame);
         self.spare += 1;
-        note_places(&mut self.hints, &self.kept, place);
     }
 }

@@ -2,7 +2,8 @@
 use Rattle.std.proofs.Common.{◌≡◌, ℕ, true, false, ◌+◌, ◌^◌, ◌<◌, ◌≤◌, refl, ◌∙◌, ap, arith, inl, inr, List, [], ◌∷◌, Some, None, if◌then◌else◌, le-leb, lt-ltb, le-ltb, leb-true, ltb-true, nat_le, nat_lt, All, zero, suc}
 use Rattle.std.proofs.lemmas.Bool.{and_parts, and_from, and_left, and_right, lt-leb, cases_lt}
 use Rattle.vm_areas.specs.declared.runs.Area.{Area}
-use Rattle.vm_areas.specs.PageMap.{end_of, within, rights_at, IsApart, IsMaximal}
+use Rattle.page_ranges.specs.Ranges.{within}
+use Rattle.vm_areas.specs.PageMap.{end_of, rights_at, IsApart, IsMaximal}
 
 pub within-true : (first pages page : ℕ) → first ≤ page → page < first + pages → within first pages page ≡ true
 within-true first pages page from below = and_from (nat_le first page) (nat_lt page (first + pages)) (le-leb first page from) (lt-ltb page (first + pages) below)

@@ -3,10 +3,12 @@ use Rattle.std.proofs.Common.{◌≡◌, ◌↔◌, ℕ, Bool, true, false, ◌+
 use Rattle.std.specs.List.{list_any}
 use Rattle.std.proofs.lemmas.Bool.{cases_Bool, cases_lt, both_ways, and_parts, and_from, or_cases}
 use Rattle.vm_areas.specs.declared.runs.Area.{Area}
-use Rattle.vm_areas.specs.declared.runs.Rights.{Rights}
-use Rattle.vm_areas.specs.PageMap.{end_of, within, rights_at, IsMaximal}
+use Rattle.page_ranges.specs.declared.rights.Rights.{Rights}
+use Rattle.page_ranges.specs.Ranges.{within}
+use Rattle.vm_areas.specs.PageMap.{end_of, rights_at, IsMaximal}
 use Rattle.vm_areas.specs.Painted.{clipped}
-use Rattle.vm_areas.specs.Ranges.{EachPage, SomePage, IsFreeAt, IsMappedAt, IsExecutableAt}
+use Rattle.page_ranges.specs.Ranges.{EachPage, SomePage}
+use Rattle.vm_areas.specs.Ranges.{IsFreeAt, IsMappedAt, IsExecutableAt}
 use Rattle.vm_areas.specs.Steps.{meets, meets_code}
 use Rattle.vm_areas.proofs.Maximal.{within-true, within-behind, within-parts, rights_at-head, rights_at-tail, rights_at-before, StartsAt-behind}
 use Rattle.vm_areas.proofs.Reaching.{mapped_by, held_by}

@@ -2,7 +2,7 @@
 use Rattle.std.proofs.Common.{◌≡◌, ℕ, ◌<◌, refl, sym, ◌∙◌, ap, subst, arith, inl, inr, List, [], ◌∷◌, Some}
 use Rattle.std.proofs.lemmas.Bool.{cases_lt}
 use Rattle.vm_areas.specs.declared.runs.Area.{Area}
-use Rattle.vm_areas.specs.declared.runs.Rights.{Rights}
+use Rattle.page_ranges.specs.declared.rights.Rights.{Rights}
 use Rattle.vm_areas.specs.PageMap.{end_of, rights_at, IsMaximal}
 use Rattle.vm_areas.proofs.Maximal.{within-true, within-behind, rights_at-head, rights_at-tail, rights_at-before, rights_at-end, StartsAt-behind}
 

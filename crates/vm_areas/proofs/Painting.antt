@@ -3,8 +3,9 @@ use Rattle.std.proofs.Common.{◌≡◌, ℕ, Bool, true, false, ◌+◌, ◌^�
 use Rattle.std.specs.Option.{option_or}
 use Rattle.std.proofs.lemmas.Bool.{cases_Bool, cases_lt, eqb-false}
 use Rattle.vm_areas.specs.declared.runs.Area.{Area}
-use Rattle.vm_areas.specs.declared.runs.Rights.{Rights}
-use Rattle.vm_areas.specs.PageMap.{end_of, within, rights_at, IsApart, IsMaximal}
+use Rattle.page_ranges.specs.declared.rights.Rights.{Rights}
+use Rattle.page_ranges.specs.Ranges.{within}
+use Rattle.vm_areas.specs.PageMap.{end_of, rights_at, IsApart, IsMaximal}
 use Rattle.vm_areas.specs.Painted.{clipped, touches, grown, joined_to, join, joined, range_of, painted, IsPainted}
 use Rattle.vm_areas.proofs.Touching.{touching, not_touching}
 use Rattle.vm_areas.proofs.Joining.{joined_to-touching, joined_to-apart, join-empty, join-some}

@@ -2,9 +2,11 @@
 use Rattle.std.proofs.Common.{◌≡◌, ◌↔◌, ℕ, true, false, ◌+◌, ◌<◌, ◌≤◌, refl, sym, ◌∙◌, ap, subst, arith, inl, inr, List, [], ◌∷◌, fold, Option, Some, None, IsSome, if◌then◌else◌}
 use Rattle.std.proofs.lemmas.Bool.{cases_Bool, cases_lt, both_ways}
 use Rattle.vm_areas.specs.declared.runs.Area.{Area}
-use Rattle.vm_areas.specs.declared.runs.Rights.{Rights}
-use Rattle.vm_areas.specs.PageMap.{end_of, within, rights_at, IsMaximal}
-use Rattle.vm_areas.specs.Ranges.{EachPage, IsMappedAt}
+use Rattle.page_ranges.specs.declared.rights.Rights.{Rights}
+use Rattle.page_ranges.specs.Ranges.{within}
+use Rattle.vm_areas.specs.PageMap.{end_of, rights_at, IsMaximal}
+use Rattle.page_ranges.specs.Ranges.{EachPage}
+use Rattle.vm_areas.specs.Ranges.{IsMappedAt}
 use Rattle.vm_areas.specs.Steps.{step_over}
 use Rattle.vm_areas.proofs.Maximal.{within-true, within-before, within-behind, within-parts, rights_at-head, rights_at-tail, StartsAt, StartsAt-behind}
 

@@ -3,8 +3,10 @@ use Rattle.std.proofs.Common.{◌≡◌, ℕ, Bool, false, ◌+◌, ◌-◌, ◌
 use Rattle.std.specs.Option.{option_or, MatchOption}
 use Rattle.std.proofs.lemmas.Bool.{cases_Bool, cases_lt}
 use Rattle.vm_areas.specs.declared.runs.Area.{Area}
-use Rattle.vm_areas.specs.PageMap.{end_of, within, rights_at, IsMaximal}
-use Rattle.vm_areas.specs.Ranges.{EachPage, IsFreeAt, IsRoom, IsHighestRoom, HasNoRoom}
+use Rattle.page_ranges.specs.Ranges.{within}
+use Rattle.vm_areas.specs.PageMap.{end_of, rights_at, IsMaximal}
+use Rattle.page_ranges.specs.Ranges.{EachPage}
+use Rattle.vm_areas.specs.Ranges.{IsFreeAt, IsRoom, IsHighestRoom, HasNoRoom}
 use Rattle.vm_areas.specs.Steps.{place_between, highest_place}
 use Rattle.vm_areas.proofs.Maximal.{within-true, within-behind, rights_at-head, rights_at-tail, rights_at-before}
 

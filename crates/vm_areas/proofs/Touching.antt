@@ -3,8 +3,9 @@ use Rattle.std.proofs.Common.{◌≡◌, ◌≢◌, Bool, true, false, ◌+◌, 
 use Rattle.std.specs.Bool.{beq}
 use Rattle.std.proofs.lemmas.Bool.{and_parts, and_from, both_ways}
 use Rattle.vm_areas.specs.declared.runs.Area.{Area}
-use Rattle.vm_areas.specs.declared.runs.Rights.{Rights}
-use Rattle.vm_areas.specs.PageMap.{end_of, same_rights}
+use Rattle.page_ranges.specs.declared.rights.Rights.{Rights}
+use Rattle.page_ranges.specs.RightsRules.{same_rights}
+use Rattle.vm_areas.specs.PageMap.{end_of}
 use Rattle.vm_areas.specs.Painted.{touches, grown}
 
 beq-true : (x y : Bool) → beq x y ≡ true → x ≡ y

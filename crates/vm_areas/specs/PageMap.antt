@@ -1,27 +1,19 @@
 -- Areas as the runs of a page map. Pages are numbered from 0. Each range of them ends at or below page 2^53,
 -- which lies past the 2^52 pages of 4096 bytes that 64-bit addresses have.
 -- Source: this project's own; rights are those of mmap(2).
-use Rattle.std.specs.Prelude.{◌≡◌, ◌≢◌, ℕ, Bool, ◌+◌, ◌^◌, ◌<◌, ◌≤◌, ◌&&◌, nat_le, nat_lt, if◌then◌else◌, List, [], ◌∷◌, length, Option, Some, None}
-use Rattle.std.specs.Bool.{beq}
+use Rattle.std.specs.Prelude.{◌≡◌, ◌≢◌, ℕ, ◌+◌, ◌^◌, ◌<◌, ◌≤◌, if◌then◌else◌, List, [], ◌∷◌, length, Option, Some, None}
 use Rattle.vm_areas.specs.declared.runs.Area.{Area}
-use Rattle.vm_areas.specs.declared.runs.Rights.{Rights}
+use Rattle.page_ranges.specs.declared.rights.Rights.{Rights}
+use Rattle.page_ranges.specs.Ranges.{within}
 
 -- the first page after an area
 abbrev pub end_of : Area → ℕ
 end_of area = area.first + area.pages
 
--- whether a page is one of so many pages from `first` on
-abbrev pub within : ℕ → ℕ → ℕ → Bool
-within first pages page = nat_le first page && nat_lt page (first + pages)
-
 -- the rights at a page: those of the area that holds it, and none where no area does
 abbrev pub rights_at : List Area → ℕ → Option Rights
 rights_at [] page = None
 rights_at (area ∷ areas) page = if within area.first area.pages page then Some area.rights else rights_at areas page
-
--- whether two pages have equal rights
-abbrev pub same_rights : Rights → Rights → Bool
-same_rights one other = beq one.read other.read && beq one.write other.write && beq one.execute other.execute
 
 -- the next area lies behind this one, with other rights where it touches it
 abbrev pub IsApart : Area → List Area → Type 0

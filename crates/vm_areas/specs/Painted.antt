@@ -1,8 +1,10 @@
 -- The areas after a change of the rights of a range of pages (mmap(2), mprotect(2), munmap(2)).
 use Rattle.std.specs.Prelude.{◌≡◌, ℕ, Bool, ◌+◌, ◌-◌, ◌^◌, ◌≤◌, ◌&&◌, ◌==◌, min, max, if◌then◌else◌, List, [], ◌∷◌, ◌++◌, map, Option, Some, None}
 use Rattle.vm_areas.specs.declared.runs.Area.{Area}
-use Rattle.vm_areas.specs.declared.runs.Rights.{Rights}
-use Rattle.vm_areas.specs.PageMap.{end_of, within, rights_at, same_rights, IsMaximal}
+use Rattle.page_ranges.specs.declared.rights.Rights.{Rights}
+use Rattle.page_ranges.specs.Ranges.{within}
+use Rattle.page_ranges.specs.RightsRules.{same_rights}
+use Rattle.vm_areas.specs.PageMap.{end_of, rights_at, IsMaximal}
 
 -- the part of an area that lies from page `from` on and below page `to`
 abbrev pub clipped : ℕ → ℕ → Area → Area
@@ -45,6 +47,10 @@ painted areas first pages rights = joined (map (clipped 0 first) areas ++ (range
 pub record IsPainted (old : List Area) (first pages : ℕ) (rights : Option Rights) (new : List Area) : Type 0 where
   pub maximal : IsMaximal new
   pub at_page : (page : ℕ) → rights_at new page ≡ (if within first pages page then rights else rights_at old page)
+
+-- `painted` are the areas after a change: the old page map painted over the range, page by page
+abbrev pub IsPaintedByAChange : Type 0
+IsPaintedByAChange = (old : List Area) (first pages : ℕ) (rights : Option Rights) → IsMaximal old → first + pages ≤ 2 ^ 53 → IsPainted old first pages rights (painted old first pages rights)
 
 -- there is one list of areas after a change, and `painted` is it
 abbrev pub OneResultOfAChange : Type 0

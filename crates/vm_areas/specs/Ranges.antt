@@ -1,17 +1,8 @@
 -- What holds of the pages of a range.
 use Rattle.std.specs.Prelude.{◌≡◌, ℕ, ◌+◌, ◌<◌, ◌≤◌, List, None, IsSome, IsSomeAnd, IsTrue}
 use Rattle.vm_areas.specs.declared.runs.Area.{Area}
+use Rattle.page_ranges.specs.Ranges.{EachPage}
 use Rattle.vm_areas.specs.PageMap.{rights_at}
-
--- each page of a range, and some page of it
-abbrev pub EachPage : ℕ → ℕ → (ℕ → Type 0) → Type 0
-EachPage first pages P = (page : ℕ) → first ≤ page → page < first + pages → P page
-
-pub record SomePage (first pages : ℕ) (P : ℕ → Type 0) : Type 0 where
-  pub page : ℕ
-  pub from : first ≤ page
-  pub below : page < first + pages
-  pub holds : P page
 
 abbrev pub IsMappedAt : List Area → ℕ → Type 0
 IsMappedAt areas page = IsSome (rights_at areas page)

@@ -3,7 +3,8 @@ use Rattle.std.specs.Prelude.{ℕ, Bool, ◌+◌, ◌-◌, ◌&&◌, ◌==◌, m
 use Rattle.std.specs.Option.{option_or}
 use Rattle.vm_areas.specs.declared.runs.Area.{Area}
 use Rattle.vm_areas.specs.declared.tally.Tally.{Tally}
-use Rattle.vm_areas.specs.PageMap.{end_of, within}
+use Rattle.page_ranges.specs.Ranges.{within}
+use Rattle.vm_areas.specs.PageMap.{end_of}
 use Rattle.vm_areas.specs.Painted.{clipped, joined_to}
 
 -- an area before those that a change at their far end has left

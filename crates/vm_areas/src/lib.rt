@@ -7,10 +7,12 @@ mod page_map;
 mod pieces;
 mod runs;
 mod tally;
-#[cfg(test)]
-mod tests;
 mod walks;
 
-pub use crate::laws::{no_change_without_pages, one_list_for_a_page_map, one_result_of_a_change};
+pub use crate::laws::{
+    no_change_without_pages, one_list_for_a_page_map, one_result_of_a_change,
+    painted_over_the_range,
+};
 pub use crate::page_map::{Areas, AreasFull, NoMemory};
-pub use crate::runs::{Area, Rights};
+pub use crate::runs::Area;
+pub use page_ranges::Rights;

@@ -3,9 +3,10 @@
 ghost use Rattle.std.specs.Prelude.{◌≡◌, ◌↔◌, ◌+◌, ◌^◌, ◌<◌, ◌≤◌, [], length, IfOk, IsErr, IsFalse, IsTrue, OnErr, OnOk, MatchOption, Some, None};
 
 use crate::pieces::paint;
-use crate::runs::{Area, Rights};
+use crate::runs::Area;
 use crate::tally::painted_count;
 use crate::walks::{any_meets, any_meets_code, place_among, reached, rights_in};
+use page_ranges::Rights;
 use std::alloc::{AllocError, Global};
 use std::marker::Model;
 use std::mem;
@@ -57,9 +58,11 @@ impl Model for Areas {
 }
 
 impl Areas {
-    ghost use Rattle.vm_areas.specs.PageMap.{rights_at, within, IsAreas};
+    ghost use Rattle.page_ranges.specs.Ranges.{within};
+    ghost use Rattle.vm_areas.specs.PageMap.{rights_at, IsAreas};
     ghost use Rattle.vm_areas.specs.Painted.{painted, IsPainted};
-    ghost use Rattle.vm_areas.specs.Ranges.{EachPage, SomePage, IsExecutableAt, IsFreeAt, IsMappedAt, HasNoRoom, IsHighestRoom};
+    ghost use Rattle.page_ranges.specs.Ranges.{EachPage, SomePage};
+    ghost use Rattle.vm_areas.specs.Ranges.{IsExecutableAt, IsFreeAt, IsMappedAt, HasNoRoom, IsHighestRoom};
 
     /// No areas, with room for all that can stand. `NoMemory` where there is no memory for it.
     pub fn make(alloc: Global) -> Result<Areas, NoMemory>

@@ -6,7 +6,8 @@ ghost use Rattle.vm_areas.specs.Painted.{painted, range_of};
 ghost use Rattle.vm_areas.specs.Steps.{with_last, with_part, with_piece};
 
 use crate::page_map::RANGES_END;
-use crate::runs::{Area, Rights};
+use crate::runs::Area;
+use page_ranges::Rights;
 
 // Puts a piece behind the areas: one run with the last where it touches it.
 fn add_piece(areas: &mut Vec<Area>, piece: Area)

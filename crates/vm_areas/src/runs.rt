@@ -1,16 +1,11 @@
 // Rights, and runs of pages with equal rights.
 
 ghost use Rattle.std.specs.Prelude.{◌≡◌, ◌+◌, ◌^◌, ◌<◌, ◌≤◌};
-ghost use Rattle.vm_areas.specs.PageMap.{end_of, within, same_rights};
+ghost use Rattle.page_ranges.specs.Ranges.{within};
+ghost use Rattle.vm_areas.specs.PageMap.{end_of};
 ghost use Rattle.vm_areas.specs.Painted.{clipped, grown, touches};
 
-/// What may be done with the bytes of a page (mmap(2): `PROT_READ`, `PROT_WRITE`, `PROT_EXEC`).
-#[derive(Clone, Copy, Debug, PartialEq, Eq)]
-pub struct Rights {
-    pub read: bool,
-    pub write: bool,
-    pub execute: bool,
-}
+use page_ranges::Rights;
 
 /// A run of mapped pages with equal rights.
 #[derive(Clone, Copy)]
@@ -21,15 +16,6 @@ pub struct Area {
     pub pages: u64,
     /// The rights of each of them.
     pub rights: Rights,
-}
-
-impl Rights {
-    // Whether the rights are equal.
-    pub(crate) fn same(self, other: Rights) -> bool
-        ensures { result ≡ same_rights self other }
-    {
-        self.read == other.read && self.write == other.write && self.execute == other.execute
-    }
 }
 
 impl Area {

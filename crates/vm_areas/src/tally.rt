@@ -7,7 +7,8 @@ ghost use Rattle.vm_areas.specs.Painted.{painted, range_of};
 ghost use Rattle.vm_areas.specs.Steps.{tally_of, with_part, with_piece};
 
 use crate::page_map::RANGES_END;
-use crate::runs::{Area, Rights};
+use crate::runs::Area;
+use page_ranges::Rights;
 
 // How many areas there are, and the last of them.
 #[derive(Clone, Copy)]

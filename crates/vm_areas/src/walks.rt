@@ -6,7 +6,8 @@ ghost use Rattle.vm_areas.specs.PageMap.{end_of, rights_at};
 ghost use Rattle.vm_areas.specs.Steps.{highest_place, meets, meets_code, place_between, step_over};
 
 use crate::page_map::{HIGHEST_END, LOWEST};
-use crate::runs::{Area, Rights};
+use crate::runs::Area;
+use page_ranges::Rights;
 
 // The rights at a page.
 pub(crate) fn rights_in(areas: &[Area], page: u64) -> Option<Rights>

@@ -1,11 +1,15 @@
-use Rattle.std.proofs.Common.{◌<◌, length, length-append, length-take, length-drop, get_or, ap, arith, None}
-use Rattle.std.proofs.lemmas.List.{get_or_default, length-map}
+use Rattle.std.proofs.Common.{◌<◌, length, arith}
 use Rattle.std.proofs.lemmas.List.Edits.{map_over_more}
 use Rattle.guest_mem.specs.MarkRules.{mark_off}
 use Rattle.guest_mem.proofs.marks.end_on.Goals as goal
 
 pub loop-i-preserved : goal.loop-i-preserved
 loop-i-preserved c =
-    let within : c.loop-i.i < length c.args.marks.now = omega arith in
-    let within_now : c.loop-i.i < length c.loop-i.marks = omega (arith, simp (length-append, length-map, length-take, length-drop) at (ap length c.loop-i.invariant)) in
-    rw c.mark_kept-left.ensures (map_over_more (mark_off c.args.page) c.args.marks.now c.loop-i.marks c.loop-i.i (get_or c.loop-i.marks c.loop-i.i None) within c.loop-i.invariant (get_or_default _ _ _ _ within_now))
+    let old = c.args.marks.now.items in
+    let now = c.loop-i.marks.items in
+    let known = c.loop-i.invariant in
+    let within : c.loop-i.i < length old = omega (arith, c.args.marks.now.ok.0) in
+    record {
+      items = rw c.mark_kept-left.ensures (map_over_more (mark_off c.args.page) old now c.loop-i.i c.index.result.now within known.items c.index.ensures);
+      len = known.len;
+    }

@@ -1,6 +1,7 @@
 use Rattle.std.proofs.Common.{◌≡◌, ℕ, ◌<◌, ◌+◌, arith, refl, ap, ◌∙◌, length, []}
 use Rattle.std.proofs.lemmas.List.{get_or-set_same, get_or-set_other}
 use Rattle.page_store.specs.Frames.{times, itself, one_if}
+use Rattle.page_store.proofs.Whole.{whole-set, whole-push}
 use Rattle.page_store.proofs.Owned.{times-push, one_if-same}
 use Rattle.page_store.proofs.page_store.take_frame.Goals as goal
 
@@ -20,7 +21,13 @@ returns-in-Some-clause-taken c =
     let parts : (f : ℕ) → times itself f free ≡ one_if frame f + times itself f left = λ f. ap (times itself f) c.in-Some.ensures.items ∙ times-push itself f left frame in
     let below : frame < length frames = omega (arith, c.requires.free frame (omega (arith, parts frame, one_if-same frame frame refl)), c.args.frames.now.ok.0) in
     record {
-      zeros = get_or-set_same frames frame c.blank_out.new.frame [] below ∙ c.blank_out.ensures;
+      zeros = get_or-set_same frames frame c.blank_out.new.frame [] below ∙ c.blank_out.ensures.zeros;
       others = λ other ne. get_or-set_other frames frame other c.blank_out.new.frame [] ne;
       owner = λ f. omega (arith, parts f);
     }
+
+pub returns-in-Some-clause-whole : goal.returns-in-Some-clause-whole
+returns-in-Some-clause-whole c = λ whole. whole-set c.args.frames.now.items c.in-Some.frame c.blank_out.new.frame whole c.blank_out.ensures.whole
+
+pub returns-in-None-clause-whole : goal.returns-in-None-clause-whole
+returns-in-None-clause-whole c = λ whole. rw c.push_reserved.ensures.items (whole-push c.args.frames.now.items c.blank_frame.result whole c.blank_frame.ensures.whole)

@@ -2,7 +2,7 @@ use Rattle.std.proofs.Common.{◌≡◌, ℕ, ◌≤◌, take, true, sym, ap, �
 use Rattle.places.specs.Places.{bytes_of}
 use Rattle.places.proofs.Numbers.{take-bytes_of, bytes_of-mod}
 use Rattle.page_store.specs.Pages.{page_for, writes}
-use Rattle.guest_mem.specs.Swaps.{outcome, has_outcome}
+use Rattle.a64_model.specs.Swaps.{outcome, has_outcome}
 use Rattle.guest_mem.proofs.Swapped.{swapped, IsRead}
 use Rattle.guest_mem.proofs.shard.Shard.swap_with.Goals as goal
 

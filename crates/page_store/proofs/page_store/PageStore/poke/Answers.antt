@@ -4,8 +4,10 @@ use Rattle.std.proofs.lemmas.List.{get_or_default, get_or-set_same, get_or-set_o
 use Rattle.sorted_entries.specs.Entries.{IsAt}
 use Rattle.page_store.specs.Pages.{spliced, written, changed}
 use Rattle.page_store.specs.Frames.{AgreeBut}
+use Rattle.page_store.specs.Row.{entries}
 use Rattle.page_store.specs.Kept.{number_of, page_in, pages_of}
 use Rattle.page_store.proofs.Owned.{owned}
+use Rattle.page_store.proofs.Whole.{whole-set}
 use Rattle.page_store.proofs.Changed.{changed_kept, changed_none}
 use Rattle.page_store.proofs.Found.{page_there, page_missing, is_kept, pages_of-frame}
 use Rattle.page_store.proofs.page_store.PageStore.poke.Goals as goal
@@ -13,43 +15,43 @@ use Rattle.page_store.proofs.page_store.PageStore.poke.Goals as goal
 -- the page is not kept
 pub returns-in_default-clause-kept : goal.returns-in_default-clause-kept
 returns-in_default-clause-kept c =
-    let missing : finite.get c.args.self.now.pages (c.args.at / 4096) ≡ None = rw (← c.self.view_is) (page_missing c.self.inside.frames.items _ _ _ (rw c.deref.ensures.value at c.in_default.ensures.absent)) in
+    let missing : finite.get c.args.self.now.pages (c.args.at / 4096) ≡ None = rw (← c.self.view_is) (page_missing c.self.inside.frames.items _ _ _ c.in_default.ensures.absent) in
     rw missing refl
 
 pub returns-in_default-clause-after : goal.returns-in_default-clause-after
 returns-in_default-clause-after c =
-    let pages = pages_of c.self.inside.frames.items c.self.inside.kept.items in
+    let pages = pages_of c.self.inside.frames.items (entries c.self.inside.kept) in
     let n = c.args.at / 4096 in
-    let missing : finite.get pages n ≡ None = page_missing c.self.inside.frames.items _ _ _ (rw c.deref.ensures.value at c.in_default.ensures.absent) in
+    let missing : finite.get pages n ≡ None = page_missing c.self.inside.frames.items _ _ _ c.in_default.ensures.absent in
     rw (← c.self.view_is) (λ i. record { pages = sym (changed_none pages n (written (c.args.at % 4096) c.args.bytes.now) missing) i; spare = c.self.inside.spare })
 
 pub returns-in_default-clause-whole : goal.returns-in_default-clause-whole
 returns-in_default-clause-whole c =
-    let missing : finite.get c.args.self.now.pages (c.args.at / 4096) ≡ None = rw (← c.self.view_is) (page_missing c.self.inside.frames.items _ _ _ (rw c.deref.ensures.value at c.in_default.ensures.absent)) in
+    let missing : finite.get c.args.self.now.pages (c.args.at / 4096) ≡ None = rw (← c.self.view_is) (page_missing c.self.inside.frames.items _ _ _ c.in_default.ensures.absent) in
     rw missing tt
 
 -- the page has one of the frames
 pub index_mut-requires : goal.index_mut-requires
 index_mut-requires c =
-    let items = c.self.inside.kept.items in
-    let place : IsAt number_of items (c.args.at / 4096) c.in-Ok.place = rw c.deref.ensures.value at c.in-Ok.ensures.found in
-    (owned items c.self.inside.free.items _ c.in-Ok.place c.index-kept.result.now c.self.invariant.owners place.in_range c.index-kept.ensures).0
+    let items = entries c.self.inside.kept in
+    let place : IsAt number_of items (c.args.at / 4096) c.in-Ok.place = c.in-Ok.ensures.found in
+    (owned items c.self.inside.free.items _ c.in-Ok.place c.at-kept.result c.self.invariant.owners place.in_range (c.at-kept.ensures c.at-kept.result)).0
 
 pub returns-clause-kept : goal.returns-clause-kept
 returns-clause-kept c =
-    let place : IsAt number_of c.self.inside.kept.items (c.args.at / 4096) c.in-Ok.place = rw c.deref.ensures.value at c.in-Ok.ensures.found in
+    let place : IsAt number_of (entries c.self.inside.kept) (c.args.at / 4096) c.in-Ok.place = c.in-Ok.ensures.found in
     rw (← c.self.view_is) (sym (is_kept c.self.inside.frames.items _ _ _ c.self.invariant.rising place))
 
 pub returns-clause-after : goal.returns-clause-after
 returns-clause-after c =
-    let kept = c.index-kept.result.now in
+    let kept = c.at-kept.result in
     let frames = c.self.inside.frames.items in
     let n = c.args.at / 4096 in
     let from = c.args.at % 4096 in
-    let items = c.self.inside.kept.items in
-    let place : IsAt number_of items n c.in-Ok.place = rw c.deref.ensures.value at c.in-Ok.ensures.found in
-    let own = owned items c.self.inside.free.items _ c.in-Ok.place kept c.self.invariant.owners place.in_range c.index-kept.ensures in
-    let there : finite.get (pages_of frames items) n ≡ Some (page_in frames kept) = page_there frames _ _ _ _ c.self.invariant.rising place c.index-kept.ensures in
+    let items = entries c.self.inside.kept in
+    let place : IsAt number_of items n c.in-Ok.place = c.in-Ok.ensures.found in
+    let own = owned items c.self.inside.free.items _ c.in-Ok.place kept c.self.invariant.owners place.in_range (c.at-kept.ensures c.at-kept.result) in
+    let there : finite.get (pages_of frames items) n ≡ Some (page_in frames kept) = page_there frames _ _ _ _ c.self.invariant.rising place (c.at-kept.ensures c.at-kept.result) in
     let in_range : kept.frame < length frames = omega (arith, own.0, c.self.inside.frames.ok.0) in
     let bytes = c.args.bytes.now in
     let frame_is : c.index_mut.result.now ≡ get_or frames kept.frame [] = c.index_mut.ensures.value ∙ get_or_default _ _ _ _ in_range in
@@ -57,19 +59,36 @@ returns-clause-after c =
     get_or-set_same frames kept.frame c.splice.new.frame [] in_range ∙ (c.splice.ensures.after ∙ ap (λ b. spliced b from bytes) frame_is) in
     let agree : AgreeBut kept.frame frames (set frames kept.frame c.splice.new.frame) = λ other ne. get_or-set_other frames kept.frame other c.splice.new.frame [] ne in
     let pages_are : pages_of (set frames kept.frame c.splice.new.frame) items ≡ changed (pages_of frames items) n (written from bytes) =
-    pages_of-frame frames _ items n c.in-Ok.place kept _ c.self.invariant.rising place c.index-kept.ensures own.1 agree new_bytes ∙ sym (changed_kept (pages_of frames items) n (page_in frames kept) (written from bytes) there) in
+    pages_of-frame frames _ items n c.in-Ok.place kept _ c.self.invariant.rising place (c.at-kept.ensures c.at-kept.result) own.1 agree new_bytes ∙ sym (changed_kept (pages_of frames items) n (page_in frames kept) (written from bytes) there) in
     rw (← c.self.view_is) (λ i. record { pages = pages_are i; spare = c.self.inside.spare })
 
 -- a frame has 4096 bytes
 pub returns-clause-whole : goal.returns-clause-whole
 returns-clause-whole c =
-    let kept = c.index-kept.result.now in
+    let kept = c.at-kept.result in
     let frames = c.self.inside.frames.items in
     let n = c.args.at / 4096 in
-    let items = c.self.inside.kept.items in
-    let place : IsAt number_of items n c.in-Ok.place = rw c.deref.ensures.value at c.in-Ok.ensures.found in
-    let own = owned items c.self.inside.free.items _ c.in-Ok.place kept c.self.invariant.owners place.in_range c.index-kept.ensures in
-    let there : finite.get c.args.self.now.pages n ≡ Some (page_in frames kept) = rw (← c.self.view_is) (page_there frames _ _ _ _ c.self.invariant.rising place c.index-kept.ensures) in
+    let items = entries c.self.inside.kept in
+    let place : IsAt number_of items n c.in-Ok.place = c.in-Ok.ensures.found in
+    let own = owned items c.self.inside.free.items _ c.in-Ok.place kept c.self.invariant.owners place.in_range (c.at-kept.ensures c.at-kept.result) in
+    let there : finite.get c.args.self.now.pages n ≡ Some (page_in frames kept) = rw (← c.self.view_is) (page_there frames _ _ _ _ c.self.invariant.rising place (c.at-kept.ensures c.at-kept.result)) in
     let in_range : kept.frame < length frames = omega (arith, own.0, c.self.inside.frames.ok.0) in
     let frame_is : c.index_mut.result.now ≡ get_or frames kept.frame [] = c.index_mut.ensures.value ∙ get_or_default _ _ _ _ in_range in
     rw there (ap length (sym frame_is) ∙ c.splice.ensures.whole)
+
+-- the frame that is written still has the bytes of a page
+pub invariant_of-self : goal.invariant_of-self
+invariant_of-self c =
+    let was = c.self.invariant in
+    record {
+      rising = was.rising;
+      owners = was.owners;
+      whole = whole-set c.self.inside.frames.items (c.at-kept.result).frame c.splice.new.frame was.whole c.splice.ensures.whole_after;
+      counted = was.counted;
+      used = was.used;
+      small = was.small;
+      room_below = was.room_below;
+      room_above = was.room_above;
+      room_frames = was.room_frames;
+      room_free = was.room_free;
+    }

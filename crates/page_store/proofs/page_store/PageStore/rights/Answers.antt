@@ -7,10 +7,10 @@ use Rattle.page_store.proofs.page_store.PageStore.rights.Goals as goal
 pub returns-in-Ok : goal.returns-in-Ok
 returns-in-Ok c =
     let frames = c.self.inside.frames.items in
-    let there : finite.get c.args.self.now.pages c.args.page ≡ Some (page_in frames c.index.result.now) = rw (← c.self.view_is) (page_there frames _ _ _ _ c.self.invariant.rising (rw c.deref.ensures.value at c.in-Ok.ensures.found) c.index.ensures) in
+    let there : finite.get c.args.self.now.pages c.args.page ≡ Some (page_in frames c.at.result) = rw (← c.self.view_is) (page_there frames _ _ _ _ c.self.invariant.rising c.in-Ok.ensures.found (c.at.ensures c.at.result)) in
     rw there refl
 
 pub returns-in-Err : goal.returns-in-Err
 returns-in-Err c =
-    let missing : finite.get c.args.self.now.pages c.args.page ≡ None = rw (← c.self.view_is) (page_missing c.self.inside.frames.items _ _ _ (rw c.deref.ensures.value at c.in-Err.ensures.absent)) in
+    let missing : finite.get c.args.self.now.pages c.args.page ≡ None = rw (← c.self.view_is) (page_missing c.self.inside.frames.items _ _ _ c.in-Err.ensures.absent) in
     rw missing refl

@@ -4,47 +4,66 @@ use Rattle.std.proofs.lemmas.List.{get_or-set_same, get_or-set_other}
 use Rattle.sorted_entries.specs.Entries.{IsAt}
 use Rattle.page_store.specs.Pages.{blank, blanked, changed}
 use Rattle.page_store.specs.Frames.{AgreeBut}
+use Rattle.page_store.specs.Row.{entries}
 use Rattle.page_store.specs.Kept.{number_of, page_in, pages_of}
 use Rattle.page_store.proofs.Owned.{owned}
+use Rattle.page_store.proofs.Whole.{whole-set}
 use Rattle.page_store.proofs.Changed.{changed_kept, changed_none}
 use Rattle.page_store.proofs.Found.{page_there, page_missing, is_kept, pages_of-frame}
 use Rattle.page_store.proofs.page_store.PageStore.zero.Goals as goal
 
 pub returns-in_default-clause-kept : goal.returns-in_default-clause-kept
 returns-in_default-clause-kept c =
-    let missing : finite.get c.args.self.now.pages c.args.page ≡ None = rw (← c.self.view_is) (page_missing c.self.inside.frames.items _ _ _ (rw c.deref.ensures.value at c.in_default.ensures.absent)) in
+    let missing : finite.get c.args.self.now.pages c.args.page ≡ None = rw (← c.self.view_is) (page_missing c.self.inside.frames.items _ _ _ c.in_default.ensures.absent) in
     rw missing refl
 
 pub returns-in_default-clause-after : goal.returns-in_default-clause-after
 returns-in_default-clause-after c =
-    let pages = pages_of c.self.inside.frames.items c.self.inside.kept.items in
-    let missing : finite.get pages c.args.page ≡ None = page_missing c.self.inside.frames.items _ _ _ (rw c.deref.ensures.value at c.in_default.ensures.absent) in
+    let pages = pages_of c.self.inside.frames.items (entries c.self.inside.kept) in
+    let missing : finite.get pages c.args.page ≡ None = page_missing c.self.inside.frames.items _ _ _ c.in_default.ensures.absent in
     rw (← c.self.view_is) (λ i. record { pages = sym (changed_none pages c.args.page blanked missing) i; spare = c.self.inside.spare })
 
 -- the page has one of the frames
 pub index_mut-requires : goal.index_mut-requires
 index_mut-requires c =
-    let items = c.self.inside.kept.items in
-    let place : IsAt number_of items c.args.page c.in-Ok.place = rw c.deref.ensures.value at c.in-Ok.ensures.found in
-    (owned items c.self.inside.free.items _ c.in-Ok.place c.index-kept.result.now c.self.invariant.owners place.in_range c.index-kept.ensures).0
+    let items = entries c.self.inside.kept in
+    let place : IsAt number_of items c.args.page c.in-Ok.place = c.in-Ok.ensures.found in
+    (owned items c.self.inside.free.items _ c.in-Ok.place c.at-kept.result c.self.invariant.owners place.in_range (c.at-kept.ensures c.at-kept.result)).0
 
 pub returns-clause-kept : goal.returns-clause-kept
 returns-clause-kept c =
-    let place : IsAt number_of c.self.inside.kept.items c.args.page c.in-Ok.place = rw c.deref.ensures.value at c.in-Ok.ensures.found in
+    let place : IsAt number_of (entries c.self.inside.kept) c.args.page c.in-Ok.place = c.in-Ok.ensures.found in
     rw (← c.self.view_is) (sym (is_kept c.self.inside.frames.items _ _ _ c.self.invariant.rising place))
 
 pub returns-clause-after : goal.returns-clause-after
 returns-clause-after c =
-    let kept = c.index-kept.result.now in
+    let kept = c.at-kept.result in
     let frames = c.self.inside.frames.items in
-    let items = c.self.inside.kept.items in
-    let place : IsAt number_of items c.args.page c.in-Ok.place = rw c.deref.ensures.value at c.in-Ok.ensures.found in
-    let own = owned items c.self.inside.free.items _ c.in-Ok.place kept c.self.invariant.owners place.in_range c.index-kept.ensures in
-    let there : finite.get (pages_of frames items) c.args.page ≡ Some (page_in frames kept) = page_there frames _ _ _ _ c.self.invariant.rising place c.index-kept.ensures in
+    let items = entries c.self.inside.kept in
+    let place : IsAt number_of items c.args.page c.in-Ok.place = c.in-Ok.ensures.found in
+    let own = owned items c.self.inside.free.items _ c.in-Ok.place kept c.self.invariant.owners place.in_range (c.at-kept.ensures c.at-kept.result) in
+    let there : finite.get (pages_of frames items) c.args.page ≡ Some (page_in frames kept) = page_there frames _ _ _ _ c.self.invariant.rising place (c.at-kept.ensures c.at-kept.result) in
     let in_range : kept.frame < length frames = omega (arith, own.0, c.self.inside.frames.ok.0) in
     let new = set frames kept.frame c.blank_out.new.frame in
     let agree : AgreeBut kept.frame frames new = λ other ne. get_or-set_other frames kept.frame other c.blank_out.new.frame [] ne in
-    let zeros : get_or new kept.frame [] ≡ blank = get_or-set_same frames kept.frame c.blank_out.new.frame [] in_range ∙ c.blank_out.ensures in
+    let zeros : get_or new kept.frame [] ≡ blank = get_or-set_same frames kept.frame c.blank_out.new.frame [] in_range ∙ c.blank_out.ensures.zeros in
     let pages_are : pages_of new items ≡ changed (pages_of frames items) c.args.page blanked =
-    pages_of-frame frames new items c.args.page c.in-Ok.place kept blank c.self.invariant.rising place c.index-kept.ensures own.1 agree zeros ∙ sym (changed_kept (pages_of frames items) c.args.page (page_in frames kept) blanked there) in
+    pages_of-frame frames new items c.args.page c.in-Ok.place kept blank c.self.invariant.rising place (c.at-kept.ensures c.at-kept.result) own.1 agree zeros ∙ sym (changed_kept (pages_of frames items) c.args.page (page_in frames kept) blanked there) in
     rw (← c.self.view_is) (λ i. record { pages = pages_are i; spare = c.self.inside.spare })
+
+-- the frame that is written still has the bytes of a page
+pub invariant_of-self : goal.invariant_of-self
+invariant_of-self c =
+    let was = c.self.invariant in
+    record {
+      rising = was.rising;
+      owners = was.owners;
+      whole = whole-set c.self.inside.frames.items (c.at-kept.result).frame c.blank_out.new.frame was.whole c.blank_out.ensures.whole;
+      counted = was.counted;
+      used = was.used;
+      small = was.small;
+      room_below = was.room_below;
+      room_above = was.room_above;
+      room_frames = was.room_frames;
+      room_free = was.room_free;
+    }
