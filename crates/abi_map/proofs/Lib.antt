@@ -1,1 +1,2 @@
 pub mod FlagTables
+pub mod ErrnoBack

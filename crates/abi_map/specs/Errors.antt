@@ -33,6 +33,32 @@ errno_out_of bsd.ENOSYS = linux.ENOSYS
 errno_out_of bsd.ELOOP = linux.ELOOP
 errno_out_of bsd.ETIMEDOUT = linux.ETIMEDOUT
 
+-- the FreeBSD error of a Linux error: that of the same name
+abbrev pub errno_in_of : LinuxErrno → BsdErrno
+errno_in_of linux.EPERM = bsd.EPERM
+errno_in_of linux.ENOENT = bsd.ENOENT
+errno_in_of linux.ESRCH = bsd.ESRCH
+errno_in_of linux.EINTR = bsd.EINTR
+errno_in_of linux.EIO = bsd.EIO
+errno_in_of linux.EBADF = bsd.EBADF
+errno_in_of linux.EAGAIN = bsd.EAGAIN
+errno_in_of linux.ENOMEM = bsd.ENOMEM
+errno_in_of linux.EACCES = bsd.EACCES
+errno_in_of linux.EFAULT = bsd.EFAULT
+errno_in_of linux.EEXIST = bsd.EEXIST
+errno_in_of linux.ENODEV = bsd.ENODEV
+errno_in_of linux.EINVAL = bsd.EINVAL
+errno_in_of linux.ENFILE = bsd.ENFILE
+errno_in_of linux.EMFILE = bsd.EMFILE
+errno_in_of linux.ENOTTY = bsd.ENOTTY
+errno_in_of linux.ENOSPC = bsd.ENOSPC
+errno_in_of linux.ESPIPE = bsd.ESPIPE
+errno_in_of linux.EPIPE = bsd.EPIPE
+errno_in_of linux.EDEADLK = bsd.EDEADLK
+errno_in_of linux.ENOSYS = bsd.ENOSYS
+errno_in_of linux.ELOOP = bsd.ELOOP
+errno_in_of linux.ETIMEDOUT = bsd.ETIMEDOUT
+
 -- the table of numbers: an error's number on Linux, and its number on FreeBSD.
 -- Linux's 1 to 10 and 12 to 34 are the same; 11, 35, 38, 40 and 110 are 35, 11, 78, 62 and 60
 abbrev pub error_table : List (ℕ × ℕ)

@@ -6,8 +6,5 @@
 pub mod errors;
 pub mod flags;
 
-pub use errors::errno_out;
+pub use errors::{errno_in, errno_out};
 pub use flags::{map_flags_in, open_flags_in, open_flags_out};
-
-#[cfg(test)]
-mod tests;

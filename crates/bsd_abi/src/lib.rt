@@ -10,6 +10,3 @@ pub mod signals;
 
 pub use errno::BsdErrno;
 pub use signals::BsdSig;
-
-#[cfg(test)]
-mod tests;

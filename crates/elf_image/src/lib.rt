@@ -8,8 +8,6 @@ mod parts;
 mod reader;
 mod rules;
 mod span;
-#[cfg(test)]
-mod tests;
 
 pub use crate::fault::{ElfFault, ElfKind};
 pub use crate::parts::{Bytes, Image, Segment, Segments};

@@ -1,8 +1,11 @@
+pub mod Flags
 pub mod LinuxErrno
 pub mod LinuxSig
+pub mod SigAction
 pub mod MaskChange
 pub mod Call
 pub mod DescriptorOperation
+pub mod EpollBits
 pub mod EpollOperation
 pub mod FutexOperation
 pub mod WakeOp

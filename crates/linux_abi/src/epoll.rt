@@ -1,8 +1,10 @@
 //! Event bits and operations of epoll(7).
 ghost use Rattle.std.specs.Prelude.{◌≡◌, Some, IfSome};
+ghost use Rattle.linux_abi.specs.EpollBits.{is_edge, is_one_shot, is_exclusive, wanted};
 ghost use Rattle.linux_abi.specs.EpollOperation.{epoll_operation_number, epoll_operation_of};
 
 use crate::files::O_CLOEXEC;
+use crate::flags::has_flag;
 
 /// There are bytes to read (epoll_ctl(2)).
 pub const EPOLLIN: u32 = 1;
@@ -24,6 +26,34 @@ pub const EPOLLONESHOT: u32 = 1 << 30;
 pub const EPOLLET: u32 = 1 << 31;
 /// O_CLOEXEC, for a new epoll (epoll_create1(2)).
 pub const EPOLL_CLOEXEC: u64 = O_CLOEXEC;
+
+/// Whether an interest that asks for these bits reports on new activity alone.
+pub fn is_edge(asked: u32) -> bool
+    ensures { result ≡ is_edge asked }
+{
+    has_flag(u64::from(EPOLLET), u64::from(asked))
+}
+
+/// Whether a report disables an interest that asks for these bits.
+pub fn is_one_shot(asked: u32) -> bool
+    ensures { result ≡ is_one_shot asked }
+{
+    has_flag(u64::from(EPOLLONESHOT), u64::from(asked))
+}
+
+/// Whether an interest that asks for these bits wakes one waiter of several.
+pub fn is_exclusive(asked: u32) -> bool
+    ensures { result ≡ is_exclusive asked }
+{
+    has_flag(u64::from(EPOLLEXCLUSIVE), u64::from(asked))
+}
+
+/// The bits that an interest is told of: those that it asks for, and the two that are reported unasked.
+pub fn wanted(asked: u32) -> u32
+    ensures { result ≡ wanted asked }
+{
+    asked | (EPOLLERR + EPOLLHUP)
+}
 
 /// The operations of epoll_ctl(2).
 #[derive(Clone, Copy)]

@@ -10,6 +10,7 @@ pub mod calls;
 pub mod epoll;
 pub mod errno;
 pub mod files;
+pub mod flags;
 pub mod futexes;
 pub mod memory;
 pub mod signals;
@@ -19,6 +20,3 @@ pub mod time;
 pub use calls::Call;
 pub use errno::{LinuxErrno, answer};
 pub use signals::LinuxSig;
-
-#[cfg(test)]
-mod tests;

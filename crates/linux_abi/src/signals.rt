@@ -2,6 +2,9 @@
 ghost use Rattle.std.specs.Prelude.{◌≡◌, ◌^◌, ◌<◌, ◌≤◌, ◌⊎◌, ◌↔◌, Some, IfSome, IsNone};
 ghost use Rattle.linux_abi.specs.LinuxSig.{signal_number, linux_bit, linux_signal_of, is_real_time, is_dropped_by_default};
 ghost use Rattle.linux_abi.specs.MaskChange.{mask_change_number, mask_change_of};
+ghost use Rattle.linux_abi.specs.SigAction.{is_default, is_ignore, has_handler, wants_info, has_restorer, wants_stack, restarts_calls, is_not_deferred, resets};
+
+use crate::flags::has_flag;
 
 /// The signals that are never blocked, as a set: SIGKILL, which is 9, and SIGSTOP, which is 19 (sigprocmask(2)).
 pub const UNBLOCKABLE: u64 = 1 << 8 | 1 << 18;
@@ -46,6 +49,69 @@ pub const BUS_ADRALN: i32 = 1;
 pub const ILL_ILLOPC: i32 = 1;
 /// The code of a SIGTRAP by a breakpoint (sigaction(2)).
 pub const TRAP_BRKPT: i32 = 1;
+
+/// Whether the handler says: the default action.
+pub fn is_default(handler: u64) -> bool
+    ensures { result ≡ is_default handler }
+{
+    handler == SIG_DFL
+}
+
+/// Whether the handler says: ignore.
+pub fn is_ignore(handler: u64) -> bool
+    ensures { result ≡ is_ignore handler }
+{
+    handler == SIG_IGN
+}
+
+/// Whether the handler is a function of the program.
+pub fn has_handler(handler: u64) -> bool
+    ensures { result ≡ has_handler handler }
+{
+    handler > SIG_IGN
+}
+
+/// Whether an action's handler gets the addresses of siginfo_t and ucontext.
+pub fn wants_info(flags: u64) -> bool
+    ensures { result ≡ wants_info flags }
+{
+    has_flag(SA_SIGINFO, flags)
+}
+
+/// Whether an action's handler returns to the address that is given.
+pub fn has_restorer(flags: u64) -> bool
+    ensures { result ≡ has_restorer flags }
+{
+    has_flag(SA_RESTORER, flags)
+}
+
+/// Whether an action's handler runs on the alternative stack.
+pub fn wants_stack(flags: u64) -> bool
+    ensures { result ≡ wants_stack flags }
+{
+    has_flag(SA_ONSTACK, flags)
+}
+
+/// Whether a call that an action's handler interrupted starts again.
+pub fn restarts_calls(flags: u64) -> bool
+    ensures { result ≡ restarts_calls flags }
+{
+    has_flag(SA_RESTART, flags)
+}
+
+/// Whether the signal isn't blocked while an action's handler runs.
+pub fn is_not_deferred(flags: u64) -> bool
+    ensures { result ≡ is_not_deferred flags }
+{
+    has_flag(SA_NODEFER, flags)
+}
+
+/// Whether an action's handler becomes the default one as it is taken.
+pub fn resets(flags: u64) -> bool
+    ensures { result ≡ resets flags }
+{
+    has_flag(SA_RESETHAND, flags)
+}
 
 /// The signals, in the order of their numbers, in which they compare (signal(7)).
 ///

@@ -1,7 +1,9 @@
 -- When each end of the program comes, in the order of work: words, image, entries, what the guest put out, last line.
 -- This project's own.
 use Rattle.std.specs.Prelude.{◌≡◌, ◌≢◌, ◌⊎◌, ◌↔◌, ℕ, ◌<◌, ◌≤◌, List, length, None, Some}
-use Rattle.outside.specs.Shelves.{MayHold, MayPass, ShelfView}
+use Rattle.outside.specs.Shelves.{MayHold, MayPass, MayFit, ShelfView}
+use Rattle.outside.specs.declared.traits.LoadFault.{LoadFault as Unloaded}
+use Rattle.outside.specs.declared.traits.LoadFault.TheVariants as unloaded
 use Rattle.outside.specs.Sinks.{SinkView, Took, TookPart, TookAsFaults, IsUntouched}
 use Rattle.elf_image.specs.Images.{image_of}
 use Rattle.elf_image.specs.Rules.{image_fault}
@@ -46,12 +48,18 @@ pub record IsLoaded (words : List (List ℕ)) (before now : ShelfView) (file : L
   pub held : MayHold (before.file (image_name words)) file
   pub short : length file ≤ IMAGE_LIMIT
 
--- why no file was loaded
+-- the end of a run whose image is not loaded
+abbrev pub load_end : Unloaded → End
+load_end (unloaded.TooLong limit) = TooLong
+load_end unloaded.Failed = LoadFault
+load_end unloaded.NoMemory = NoMemory
+
+-- why no file was loaded. A file that is too long is never told as want of memory.
 abbrev pub LoadsNone : List (List ℕ) → ShelfView → ShelfView → End → Type 0
 LoadsNone words before now (Usage fault) = (usage_fault words ≡ Some fault) × (now.loads ≡ before.loads)
 LoadsNone words before now LoadFault = (usage_fault words ≡ None) × (before.loads < now.loads)
 LoadsNone words before now TooLong = (usage_fault words ≡ None) × (now.loads ≡ before.loads) × MayPass (before.file (image_name words)) IMAGE_LIMIT
-LoadsNone words before now NoMemory = (usage_fault words ≡ None) × (now.loads ≡ before.loads)
+LoadsNone words before now NoMemory = (usage_fault words ≡ None) × (now.loads ≡ before.loads) × MayFit (before.file (image_name words)) IMAGE_LIMIT
 LoadsNone words before now (Exited code) = ⊥
 LoadsNone words before now FuelSpent = ⊥
 LoadsNone words before now WriteFault = ⊥

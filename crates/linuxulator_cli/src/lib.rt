@@ -14,6 +14,3 @@ pub use lines::{Line, last_line, status_of};
 pub use outcome::{End, FUEL, IMAGE_LIMIT, Outcome};
 pub use program::{run_before_last_line, run_program};
 pub use words::{UsageFault, UsageKind, read_words};
-
-#[cfg(test)]
-mod tests;

@@ -1,11 +1,11 @@
 // The top call.
 ghost use Rattle.std.specs.Prelude.{◌≡◌, ◌≢◌, ◌⊎◌, ◌↔◌, ◌^◌, ◌-◌, ◌<◌, List, ℕ, None, Some, length, map, string_bytes, IfOk, IfErr};
-ghost use Rattle.outside.specs.Shelves.{shelf_view};
+ghost use Rattle.outside.specs.Shelves.{KeepsFiles, shelf_view};
 ghost use Rattle.outside.specs.Sinks.{sink_view};
 ghost use Rattle.linuxulator_cli.specs.Lines.{status_of as status_number};
 ghost use Rattle.linuxulator_cli.specs.Words.{usage_fault, image_name};
 ghost use Rattle.linuxulator_cli.specs.declared.words.UsageFault.{UsageFault};
-ghost use Rattle.linuxulator_cli.specs.Outcome.{Cause, IsProgram, IsLoaded, LoadsNone, RefusesExactly, RefusesHeaders, ExitsExactly, SpendsExactly, StopsExactly, IsComplete, outside, end_of as end_after};
+ghost use Rattle.linuxulator_cli.specs.Outcome.{Cause, IsProgram, IsLoaded, LoadsNone, RefusesExactly, RefusesHeaders, ExitsExactly, SpendsExactly, StopsExactly, IsComplete, outside, end_of as end_after, load_end};
 
 use crate::image::read_program;
 use crate::lines::last_line;
@@ -25,6 +25,16 @@ fn end_of(how: RunEnd) -> End
     }
 }
 
+fn end_of_load(fault: LoadFault) -> End
+    ensures { result ≡ load_end fault }
+{
+    match fault {
+        LoadFault::TooLong { .. } => End::TooLong,
+        LoadFault::Failed => End::LoadFault,
+        LoadFault::NoMemory => End::NoMemory,
+    }
+}
+
 // Reads the words, and loads the file that they name.
 fn load_image<H: Shelf>(alloc: Global, words: &[String], shelf: &mut H) -> Result<Vec<u8>, End>
     requires { H.loads shelf.old < 2 ^ 64 - 1 }
@@ -32,18 +42,18 @@ fn load_image<H: Shelf>(alloc: Global, words: &[String], shelf: &mut H) -> Resul
         (shelf_view H.file H.loads H.saves shelf.old) (shelf_view H.file H.loads H.saves shelf.new) file.items) }
     ensures refused { IfErr result (λ end. LoadsNone (map string_bytes words.now)
         (shelf_view H.file H.loads H.saves shelf.old) (shelf_view H.file H.loads H.saves shelf.new) end) }
+    ensures files { KeepsFiles (shelf_view H.file H.loads H.saves shelf.old) (shelf_view H.file H.loads H.saves shelf.new) }
 {
     let name = read_words(words).map_err(End::Usage)?;
     match shelf.load(alloc, name, IMAGE_LIMIT) {
         Ok(file) => Ok(file),
-        Err(LoadFault::Failed) => Err(End::LoadFault),
-        Err(LoadFault::TooLong { .. }) => Err(End::TooLong),
-        Err(LoadFault::NoMemory) => Err(End::NoMemory),
+        Err(fault) => Err(end_of_load(fault)),
     }
 }
 
 /// All that `run_program` does before the last line, with the same arguments: it reads the words, loads
 /// and reads the image, runs it, and puts out what the guest wrote.
+#[tactic(auto, using(crate::proofs::Runs::cause_of_refusal, crate::proofs::Runs::cause_of_want))]
 pub fn run_before_last_line<H: Shelf, O: Sink, E: Sink>(
     alloc: Global,
     words: &[String],
@@ -62,6 +72,7 @@ pub fn run_before_last_line<H: Shelf, O: Sink, E: Sink>(
         (sink_view O.taken O.faults out.new) (sink_view E.taken E.faults err.new))
         result.count result.end }
     ensures write { (result.end ≡ End.WriteFault) ↔ ((O.faults out.old < O.faults out.new) ⊎ (E.faults err.old < E.faults err.new)) }
+    ensures files { KeepsFiles (shelf_view H.file H.loads H.saves shelf.old) (shelf_view H.file H.loads H.saves shelf.new) }
 {
     let file = match load_image(alloc, words, shelf) {
         Ok(file) => file,
@@ -102,6 +113,7 @@ pub fn run_program<H: Shelf, O: Sink, E: Sink>(
         (outside (shelf_view H.file H.loads H.saves shelf.new)
         (sink_view O.taken O.faults out.new) (sink_view E.taken E.faults err.new))
         result.count result.end }
+    ensures files { KeepsFiles (shelf_view H.file H.loads H.saves shelf.old) (shelf_view H.file H.loads H.saves shelf.new) }
 
     // Exactly where each end comes.
     ensures usage { (fault : UsageFault) →
@@ -110,7 +122,7 @@ pub fn run_program<H: Shelf, O: Sink, E: Sink>(
     ensures long { (file : List ℕ) →
         H.file shelf.old (image_name (map string_bytes words.now)) ≡ Some (Some file) →
         usage_fault (map string_bytes words.now) ≡ None → H.loads shelf.new ≡ H.loads shelf.old →
-        result.end ≢ End.NoMemory → (result.end ≡ End.TooLong) ↔ (IMAGE_LIMIT < length file) }
+        (result.end ≡ End.TooLong) ↔ (IMAGE_LIMIT < length file) }
     ensures image { RefusesExactly (map string_bytes words.now)
         (shelf_view H.file H.loads H.saves shelf.old) (shelf_view H.file H.loads H.saves shelf.new) result.end }
     ensures headers { RefusesHeaders (map string_bytes words.now)

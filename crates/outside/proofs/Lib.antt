@@ -1,3 +1,4 @@
 pub mod Parts
 pub mod FilesOfAShelf
 pub mod ReadsFromTheFront
+pub mod Wholes

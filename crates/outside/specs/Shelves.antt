@@ -20,12 +20,18 @@ MayPass None limit = ⊤
 MayPass (Some None) limit = ⊥
 MayPass (Some (Some xs)) limit = limit < length xs
 
+-- the file may be within the limit
+abbrev pub MayFit : Told → ℕ → Type 0
+MayFit None limit = ⊤
+MayFit (Some None) limit = ⊥
+MayFit (Some (Some xs)) limit = length xs ≤ limit
+
 -- what the answer of a load says of the file; V is a `Vec`, of which `bytes` are the items
 abbrev pub Loads : {V : Type 0} → (V → List ℕ) → Told → ℕ → Result V LoadFault → Type 0
 Loads bytes file limit (Ok v) = (length (bytes v) ≤ limit) × MayHold file (bytes v)
 Loads bytes file limit (Err (TooLong passed)) = (passed ≡ limit) × MayPass file limit
 Loads bytes file limit (Err Failed) = ⊤
-Loads bytes file limit (Err NoMemory) = ⊤
+Loads bytes file limit (Err NoMemory) = MayFit file limit
 
 -- what a shelf tells at one moment
 pub record ShelfView : Type 0 where
@@ -35,6 +41,11 @@ pub record ShelfView : Type 0 where
 
 abbrev pub shelf_view : {S : Type 0} → (S → List ℕ → Told) → (S → ℕ) → (S → ℕ) → S → ShelfView
 shelf_view file loads saves shelf = record { file = file shelf; loads = loads shelf; saves = saves shelf }
+
+-- the shelf has the files that it had, and no save has failed
+pub record KeepsFiles (before now : ShelfView) : Type 0 where
+  pub files : (name : List ℕ) → now.file name ≡ before.file name
+  pub saves : now.saves ≡ before.saves
 
 -- what is told of a folder of the system: its failed loads and saves
 pub record FolderCounts : Type 0 where

@@ -1,10 +1,11 @@
 // The real source, sinks, folder and clock, over the runtime's own objects: the trusted edge. A source
 // and a sink tell what their reader and writer tell, and those of the system tell nothing.
-ghost use Rattle.std.specs.Prelude.{◌≡◌, ℕ, None, ⊤};
+ghost use Rattle.std.specs.Prelude.{◌≡◌, ◌≤◌, ℕ, None, ⊤, IfOk, vec_len};
 
+use crate::pieces::{put_all, take_all};
 use crate::traits::{Clock, Failed, LoadFault, Shelf, Sink, Source};
 use std::alloc::Global;
-use std::io::{self, ErrorKind, Read, Write};
+use std::io::{ErrorKind, Read, Write};
 use std::marker::Model;
 use std::rt::Files;
 use std::{fs, time};
@@ -96,12 +97,28 @@ impl<'a, R: Files> Model for DirShelf<'a, R> {
     ghost view = { λ s. record { loads = s.loads; saves = s.saves } };
 }
 
-// All bytes of a file, but no more than one past the limit.
-fn read_file<R: Files>(files: &R, alloc: Global, name: &str, limit: u64) -> io::Result<Vec<u8>> {
-    let mut bytes = Vec::new(alloc);
-    let file = fs::open(files, name)?;
-    file.take(limit.saturating_add(1)).read_to_end(&mut bytes)?;
-    Ok(bytes)
+// All bytes of a file.
+fn read_file<R: Files>(
+    files: &R,
+    alloc: Global,
+    name: &str,
+    limit: u64,
+) -> Result<Vec<u8>, LoadFault>
+    ensures { IfOk result (λ bytes. vec_len bytes ≤ limit) }
+{
+    match fs::open(files, name) {
+        Ok(file) => take_all(&mut StdSource::make(file), alloc, limit),
+        Err(error) if error.kind() == ErrorKind::OutOfMemory => Err(LoadFault::NoMemory),
+        Err(_) => Err(LoadFault::Failed),
+    }
+}
+
+// Makes a file of these bytes, in the place of one of that name.
+fn write_file<R: Files>(files: &R, name: &str, bytes: &[u8]) -> Result<(), Failed> {
+    match fs::create(files, name) {
+        Ok(file) => put_all(&mut StdSink::make(file), bytes),
+        Err(_) => Err(Failed),
+    }
 }
 
 impl<'a, R: Files> DirShelf<'a, R> {
@@ -126,10 +143,10 @@ impl<'a, R: Files> Shelf for DirShelf<'a, R> {
 
     fn load(&mut self, alloc: Global, name: &str, limit: u64) -> Result<Vec<u8>, LoadFault> {
         match read_file(self.files, alloc, name, limit) {
-            Ok(bytes) if bytes.len() as u64 <= limit => Ok(bytes),
-            Ok(_) => Err(LoadFault::TooLong { limit }),
-            Err(error) if error.kind() == ErrorKind::OutOfMemory => Err(LoadFault::NoMemory),
-            Err(_) => {
+            Ok(bytes) => Ok(bytes),
+            Err(LoadFault::TooLong { .. }) => Err(LoadFault::TooLong { limit }),
+            Err(LoadFault::NoMemory) => Err(LoadFault::NoMemory),
+            Err(LoadFault::Failed) => {
                 self.loads = self.loads.saturating_add(1);
                 Err(LoadFault::Failed)
             }
@@ -137,9 +154,9 @@ impl<'a, R: Files> Shelf for DirShelf<'a, R> {
     }
 
     fn save(&mut self, name: &str, bytes: &[u8]) -> Result<(), Failed> {
-        match fs::write(self.files, name, bytes) {
+        match write_file(self.files, name, bytes) {
             Ok(()) => Ok(()),
-            Err(_) => {
+            Err(Failed) => {
                 self.saves = self.saves.saturating_add(1);
                 Err(Failed)
             }

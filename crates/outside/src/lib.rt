@@ -18,8 +18,5 @@ pub use clocks::{OpenGate, StillClock, TickClock};
 pub use memory_shelf::MemShelf;
 pub use memory_sink::MemSink;
 pub use memory_source::MemSource;
-pub use pieces::{put, put_all, put_some};
+pub use pieces::{put, put_all, put_some, take_all};
 pub use traits::{Clock, Failed, Gate, LoadFault, Shelf, Sink, Source};
-
-#[cfg(test)]
-mod tests;

@@ -92,7 +92,8 @@ impl Shelf for MemShelf {
     ghost saves = { λ s. s.saves };
 
     /// `Failed` exactly where `failing` has the call's number or no file has the name. `TooLong`
-    /// exactly where the call doesn't fail so and the file is longer than `limit`.
+    /// exactly where the call doesn't fail so and the file is longer than `limit`. The count of loads
+    /// rises by one where the call fails so, and nowhere else.
     fn load(&mut self, alloc: Global, name: &str, limit: u64) -> Result<Vec<u8>, LoadFault>
         ensures bytes { Loads (λ v. v.items) (Some (file_in self.old.files name.now)) limit result }
         ensures files { (other : List ℕ) → Some (file_in self.new.files other) ≡ Some (file_in self.old.files other) }
@@ -100,6 +101,7 @@ impl Shelf for MemShelf {
         ensures saves { self.new.saves ≡ self.old.saves }
         ensures failed { result ≡ Err LoadFault.Failed → Contains self.old.failing self.old.calls ⊎ (file_in self.old.files name.now ≡ None) }
         ensures told { Contains self.old.failing self.old.calls → result ≡ Err LoadFault.Failed }
+        ensures rises { result ≡ Err LoadFault.Failed → self.new.loads ≡ counted self.old.loads }
         ensures missing { file_in self.old.files name.now ≡ None → result ≡ Err LoadFault.Failed }
         ensures calls { self.new.calls ≡ counted self.old.calls }
         ensures failing { self.new.failing ≡ self.old.failing }
@@ -121,13 +123,15 @@ impl Shelf for MemShelf {
         }
     }
 
-    /// `Failed` where `failing` has the call's number, and besides, free, for want of memory.
+    /// `Failed` where `failing` has the call's number, and besides, free, for want of memory. The count of
+    /// saves rises by one there, and nowhere else.
     fn save(&mut self, name: &str, bytes: &[u8]) -> Result<(), Failed>
         ensures saved { IfOk result (λ _. MayHold (Some (file_in self.new.files name.now)) bytes.now) }
         ensures others { (other : List ℕ) → other ≢ name.now → Some (file_in self.new.files other) ≡ Some (file_in self.old.files other) }
         ensures cause { HasCause self.old.saves self.new.saves result }
         ensures loads { self.new.loads ≡ self.old.loads }
         ensures told { Contains self.old.failing self.old.calls → IsErr result }
+        ensures rises { OnErr result (self.new.saves ≡ counted self.old.saves) }
         ensures kept { OnErr result (self.new.files ≡ self.old.files) }
         ensures calls { self.new.calls ≡ counted self.old.calls }
         ensures failing { self.new.failing ≡ self.old.failing }

@@ -1,5 +1,5 @@
 // A sink in memory, which fails at the calls that it is told.
-ghost use Rattle.std.specs.Prelude.{◌≡◌, ◌≤◌, ◌<◌, ◌+◌, ◌⊎◌, min, length, Contains, IsErr, IsOk, IsTrue, Some, IfOk};
+ghost use Rattle.std.specs.Prelude.{◌≡◌, ◌≤◌, ◌<◌, ◌+◌, ◌⊎◌, min, length, Contains, IsErr, IsOk, IsTrue, Some, IfOk, OnErr};
 ghost use Rattle.std.specs.Vec.{vec_capacity};
 
 use crate::calls::Calls;
@@ -61,7 +61,8 @@ impl Sink for MemSink {
     ghost faults = { λ s. s.faults };
 
     /// `Failed` exactly where `failing` has the call's number, and besides, free, for want of memory
-    /// past the room that has been had already.
+    /// past the room that has been had already, which stays. The count of faults rises by one there, and
+    /// nowhere else.
     fn write(&mut self, piece: &[u8]) -> Result<usize, Failed>
         requires { 0 < length piece.now }
         ensures count { IfOk result (λ n. (1 ≤ n) × (n ≤ length piece.now)) }
@@ -70,10 +71,12 @@ impl Sink for MemSink {
         ensures told { Contains self.old.failing self.old.calls → IsErr result }
         ensures failed { IsErr result →
             Contains self.old.failing self.old.calls ⊎ (self.old.room < length self.old.taken + min (length piece.now) self.old.piece) }
+        ensures rises { OnErr result (self.new.faults ≡ counted self.old.faults) }
         ensures fits { IfOk result (λ n. n ≡ min (length piece.now) self.old.piece) }
         ensures calls { self.new.calls ≡ counted self.old.calls }
         ensures failing { self.new.failing ≡ self.old.failing }
         ensures piece { self.new.piece ≡ self.old.piece }
+        ensures room { self.old.room ≤ self.new.room }
     {
         let count = piece.len().min(self.piece);
         if self.calls.fails_next() || self.taken.extend_from_slice(&piece[..count]).is_err() {

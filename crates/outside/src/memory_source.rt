@@ -1,5 +1,5 @@
 // A source in memory, which fails at the calls that it is told.
-ghost use Rattle.std.specs.Prelude.{◌≡◌, ◌↔◌, ◌≤◌, List, ℕ, min, length, Contains, IsErr, IsTrue, Some, IfOk, take};
+ghost use Rattle.std.specs.Prelude.{◌≡◌, ◌↔◌, ◌≤◌, List, ℕ, min, length, Contains, IsErr, IsTrue, Some, IfOk, OnErr, take};
 
 use crate::calls::Calls;
 use crate::traits::{Failed, Source};
@@ -60,12 +60,14 @@ impl Source for MemSource {
 
     ghost faults = { λ s. s.faults };
 
-    /// `Failed` exactly where `failing` has the call's number.
+    /// `Failed` exactly where `failing` has the call's number. The count of faults rises by one there, and
+    /// nowhere else.
     fn read(&mut self, buf: &mut [u8]) -> Result<usize, Failed>
         ensures bound { ReadsAtMost result buf.new }
         ensures bytes { ReadConsumes (Some self.old.left) (Some self.new.left) result buf.new }
         ensures cause { HasCause self.old.faults self.new.faults result }
         ensures failed { IsErr result ↔ Contains self.old.failing self.old.calls }
+        ensures rises { OnErr result (self.new.faults ≡ counted self.old.faults) }
         ensures fits { IfOk result (λ n. n ≡ min (length buf.new) (length self.old.left)) }
         ensures calls { self.new.calls ≡ counted self.old.calls }
         ensures failing { self.new.failing ≡ self.old.failing }

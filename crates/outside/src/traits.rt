@@ -20,7 +20,7 @@ pub enum LoadFault {
     TooLong { limit: u64 },
     /// The load failed, or no file has the name. The shelf's count of loads rose.
     Failed,
-    /// Want of memory.
+    /// Want of memory for a file that is not too long.
     NoMemory,
 }
 

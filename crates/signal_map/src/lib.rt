@@ -9,6 +9,3 @@ pub mod signals;
 
 pub use sets::{set_in, set_out};
 pub use signals::{signal_in, signal_out};
-
-#[cfg(test)]
-mod tests;

@@ -18,6 +18,3 @@ pub use laws::files_are_texts;
 pub use reading::read_tape;
 pub use tape::{Full, Tape};
 pub use writing::write_tape;
-
-#[cfg(test)]
-mod tests;
