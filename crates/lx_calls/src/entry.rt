@@ -2,8 +2,19 @@
 //! which there are.
 ghost use Rattle.std.specs.Prelude.{◌≡◌, ◌∷◌, [], Some, IfOk, OnErr, OnOk};
 ghost use Rattle.lx_machine.specs.Calls.{first_refusal};
-ghost use Rattle.lx_machine.specs.Pieces.{piece, clipped};
-ghost use Rattle.lx_calls.specs.Entry.{is_unaligned, pages_of, ends_above, is_fixed, wants_execute, vector_refusals, mmap_refusals, munmap_refusals, mprotect_refusals, madvise_refusals, eventfd_refusals, pipe_refusals, dup3_refusals, refusals, first_pieces, entered_as, entered};
+ghost use Rattle.lx_machine.specs.Pieces.{clipped, piece};
+ghost use Rattle.lx_machine.specs.Dup.{dup3_refusals};
+ghost use Rattle.lx_machine.specs.Shape.{entered, entered_by};
+ghost use Rattle.lx_machine.specs.Table.{rules};
+ghost use Rattle.lx_machine.specs.Transfers.{transfer_pieces};
+ghost use Rattle.lx_machine.specs.Eventfd.{eventfd_refusals};
+ghost use Rattle.lx_machine.specs.Madvise.{madvise_refusals};
+ghost use Rattle.lx_machine.specs.Mmap.{is_fixed_mapping, mmap_refusals};
+ghost use Rattle.lx_machine.specs.Mprotect.{mprotect_refusals};
+ghost use Rattle.lx_machine.specs.Munmap.{munmap_refusals};
+ghost use Rattle.lx_machine.specs.Pipe.{pipe_refusals};
+ghost use Rattle.lx_machine.specs.Ranges.{ends_above, is_unaligned_page, pages_of, wants_execute};
+ghost use Rattle.lx_machine.specs.Readv.{vector_refusals};
 
 use linux_abi::files::IOV_MAX;
 use linux_abi::memory::{Advice, MAP_ANONYMOUS, MAP_FIXED, MAP_PRIVATE, MAP_SHARED, PROT_EXEC};
@@ -13,6 +24,8 @@ use lx_epolls::epoll_calls::{
     epoll_create_refusal, epoll_ctl_pieces, epoll_ctl_refusal, epoll_pwait_pieces,
     epoll_pwait_refusal,
 };
+use lx_futexes::futexes::{futex_pieces, futex_refusal};
+use lx_futexes::time::{clock_gettime_refusal, nanosleep_pieces};
 use lx_machine::buffer::{NoMemory, ROOM};
 use lx_machine::calls::{LxCall, Piece, Pieces, has_other, refused_if};
 use lx_signal_calls::actions::{sigaction_pieces, sigaction_refusal};
@@ -23,8 +36,6 @@ use lx_signal_calls::masks::{
 use lx_signal_calls::sigreturn::sigreturn_pieces;
 use lx_signal_calls::stacks::sigaltstack_pieces;
 use lx_signals::sending::{kill_refusal, tgkill_refusal, tkill_refusal};
-use lx_threads::futexes::{futex_pieces, futex_refusal};
-use lx_threads::time::{clock_gettime_refusal, nanosleep_pieces};
 use lx_transfers::vectors::clip;
 use std::alloc::Global;
 
@@ -51,7 +62,7 @@ const ALL_RIGHTS: u32 = 7;
 
 /// The address is no multiple of a page.
 fn is_unaligned(at: u64) -> bool
-    ensures { result ≡ is_unaligned at }
+    ensures { result ≡ is_unaligned_page at }
 {
     at % PAGE != 0
 }
@@ -72,7 +83,7 @@ fn ends_above(at: u64, len: u64) -> bool
 
 /// MAP_FIXED.
 pub fn is_fixed(flags: u32) -> bool
-    ensures { result ≡ is_fixed flags }
+    ensures { result ≡ is_fixed_mapping flags }
 {
     u64::from(flags) / MAP_FIXED % 2 == 1
 }
@@ -189,7 +200,7 @@ fn pipe_refusal(call: &LxCall) -> Option<LinuxErrno>
 
 /// What refuses a call at its entry.
 fn refusal(call: &LxCall, kind: Call) -> Option<LinuxErrno>
-    ensures { result ≡ first_refusal (refusals call.now kind) }
+    ensures { result ≡ first_refusal ((rules kind).refusals call.now) }
 {
     match kind {
         Call::Readv => vector_refusal(call),
@@ -228,7 +239,7 @@ fn transfer(alloc: Global, at: u64, len: u64) -> Result<Pieces, NoMemory>
 
 /// What a call fetches first.
 fn first_pieces(alloc: Global, sp: u64, call: &LxCall, kind: Call) -> Result<Pieces, NoMemory>
-    ensures { IfOk result (λ pieces. pieces ≡ first_pieces sp call.now kind) }
+    ensures { IfOk result (λ pieces. pieces ≡ (rules kind).pieces sp call.now) }
 {
     let [_, at, len, ..] = call.arguments;
     match kind {
@@ -251,7 +262,7 @@ fn first_pieces(alloc: Global, sp: u64, call: &LxCall, kind: Call) -> Result<Pie
 
 /// Enters a known call.
 fn enter_as(alloc: Global, sp: u64, call: &mut LxCall, kind: Call) -> Result<(), NoMemory>
-    ensures ok { OnOk result (call.new ≡ entered_as sp call.old (Some kind)) }
+    ensures ok { OnOk result (call.new ≡ entered_by sp call.old (rules kind)) }
     ensures err { OnErr result (call.new ≡ call.old) }
 {
     match refusal(call, kind) {

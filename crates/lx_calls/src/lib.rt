@@ -8,5 +8,3 @@ pub mod entry;
 pub mod memory_calls;
 pub mod process_calls;
 pub mod shape;
-#[cfg(test)]
-mod tests;

@@ -1,6 +1,13 @@
 //! brk(2), mmap(2), munmap(2), mprotect(2) and madvise(2).
 ghost use Rattle.std.specs.Prelude.{◌≡◌, ◌≤◌, ◌+◌, ◌*◌, ◌^◌, ◌<◌, Some, None, IfOk, IfErr, OnErr, OnOk};
-ghost use Rattle.lx_calls.specs.MemoryCalls.{rights_of, refuses, raised, lowered, brk, mapped_at, mapped_fixed, mmap, munmap, mprotect, madvise, short_of_memory};
+ghost use Rattle.lx_machine.specs.Brk.{brk, lowered, raised};
+ghost use Rattle.lx_machine.specs.Madvise.{madvise};
+ghost use Rattle.lx_machine.specs.Rules.{short_outcome};
+ghost use Rattle.lx_machine.specs.Table.{rules};
+ghost use Rattle.lx_machine.specs.Mmap.{mapped_at, mapped_fixed, mmap};
+ghost use Rattle.lx_machine.specs.Mprotect.{mprotect};
+ghost use Rattle.lx_machine.specs.Munmap.{munmap};
+ghost use Rattle.lx_machine.specs.Ranges.{rights_asked, space_refuses};
 
 use crate::entry::{PAGE, is_fixed, pages_of};
 use linux_abi::memory::{PROT_EXEC, PROT_READ, PROT_WRITE};
@@ -10,7 +17,7 @@ use lx_machine::calls::LxCall;
 use lx_machine::refusal::LxRefusal;
 use lx_machine::space::Space;
 use lx_memory::queries::{all_free, all_mapped, any_executable, highest_gap};
-use vm_areas::Rights;
+use page_ranges::Rights;
 
 /// The first page where a mapping without MAP_FIXED may lie.
 const LOWEST_PAGE: u64 = 16;
@@ -36,7 +43,7 @@ const NO_PAGES: PageRange = PageRange { first: 0, count: 0 };
 
 /// The rights that PROT_READ, PROT_WRITE and PROT_EXEC give.
 fn rights_of(n: u32) -> Rights
-    ensures { result ≡ rights_of n }
+    ensures { result ≡ rights_asked n }
 {
     let n = u64::from(n);
     Rights {
@@ -204,8 +211,8 @@ pub fn madvise(space: &mut Space, call: &mut LxCall) -> PageRange
 /// A call where memory runs short: a break stays (brk(2)), and mmap(2), munmap(2) and mprotect(2) answer ENOMEM. Not
 /// enabled: the call needs no memory.
 pub fn run_short(space: &Space, call: &mut LxCall, kind: Call) -> Result<(), LxRefusal>
-    ensures ok { OnOk result (short_of_memory space.now call.old kind ≡ Some record { space = space.now; call = call.new; first = 0; count = 0 }) }
-    ensures err { OnErr result (short_of_memory space.now call.old kind ≡ None) }
+    ensures ok { OnOk result (short_outcome (rules kind) space.now call.old ≡ Some record { space = space.now; call = call.new; first = 0; count = 0 }) }
+    ensures err { OnErr result (short_outcome (rules kind) space.now call.old ≡ None) }
     ensures kept { OnErr result (call.new ≡ call.old) }
     ensures no_step { IfErr result (λ e. e ≡ LxRefusal.NoStep) }
 {

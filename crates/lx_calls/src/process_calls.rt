@@ -1,6 +1,6 @@
 //! uname(2). Which names these are is this project's own.
 ghost use Rattle.std.specs.Prelude.{◌≡◌, ◌≤◌, ◌++◌, length, IfOk, OnErr, OnOk};
-ghost use Rattle.lx_calls.specs.ProcessCalls.{name_field, names, uname};
+ghost use Rattle.lx_machine.specs.Uname.{name_field, names, uname};
 
 use lx_machine::buffer::{Bytes, NoMemory};
 use lx_machine::calls::{LxCall, Piece, Pieces};

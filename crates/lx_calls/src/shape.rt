@@ -1,21 +1,26 @@
 //! What each call does, one thing after the other. The manual page of each call says so.
 ghost use Rattle.std.specs.Prelude.{◌≡◌, OnErr, OnOk};
-ghost use Rattle.lx_machine.specs.Calls.{low_argument, storing, answered_stage};
-ghost use Rattle.lx_calls.specs.Shape.{fetch_first, write_stage, read_stage, readv_stage, exit_stage, working_stage, known_stage, finishing_stage, stage_of, fetched_by, with_vectors, fetched, not_fetched, mask_of, written, not_written};
-ghost use Rattle.lx_transfers.specs.Vectors.{vectors};
+ghost use Rattle.lx_machine.specs.Calls.{answered_stage, low_argument, storing};
+ghost use Rattle.lx_machine.specs.Shape.{fetched, finishing_stage, mask_of, not_fetched, not_written, stage_of, written};
+ghost use Rattle.lx_machine.specs.Exit.{exit_stage};
+ghost use Rattle.lx_machine.specs.Read.{read_stage};
+ghost use Rattle.lx_machine.specs.Readv.{readv_stage, vectors, with_vectors};
+ghost use Rattle.lx_machine.specs.Table.{rules};
+ghost use Rattle.lx_machine.specs.Transfers.{fetch_first};
+ghost use Rattle.lx_machine.specs.Write.{write_stage};
 
 use linux_abi::{Call, LinuxErrno};
 use lx_clones::clones::{birth_stage, clone_not_stored, clone_stage};
+use lx_clones::robust_list::{death_fetched, death_not_fetched, death_stage, death_stored};
 use lx_epolls::epoll_calls::{epoll_ctl_stage, epoll_pwait_stage};
+use lx_futexes::futexes::{futex_fetched, futex_stage};
+use lx_futexes::time::{clock_gettime_stage, nanosleep_stage, timeout_fetched};
 use lx_machine::buffer::{NoMemory, ROOM};
 use lx_machine::calls::{LxCall, Piece, Stage};
 use lx_signal_calls::actions::sigaction_stage;
 use lx_signal_calls::masks::{blockable, fetched_mask, sigprocmask_stage, sigsuspend_stage};
 use lx_signal_calls::sigreturn::sigreturn_stage;
 use lx_signal_calls::stacks::sigaltstack_stage;
-use lx_threads::deaths::{death_fetched, death_not_fetched, death_stage, death_stored};
-use lx_threads::futexes::{futex_fetched, futex_stage};
-use lx_threads::time::{clock_gettime_stage, nanosleep_stage, timeout_fetched};
 use lx_transfers::vectors::{clip, has_negative, read_vectors};
 use std::alloc::Global;
 
@@ -96,7 +101,7 @@ fn exit_stage(call: &LxCall) -> Stage
 
 /// What a known call without a result does next.
 fn working(call: &LxCall, kind: Call) -> Stage
-    ensures { result ≡ working_stage call.now kind }
+    ensures { result ≡ (rules kind).stage call.now }
 {
     match kind {
         Call::Read => read_stage(call),

@@ -1,10 +1,11 @@
 //! clone(2), set_robust_list(2) and get_robust_list(2).
 ghost use Rattle.std.specs.Prelude.{◌≡◌, ◌≤◌, ◌<◌, ◌+◌, ◌++◌, ◌∷◌, [], length, Some, None, IfSome, IfOk, OnOk, OnErr};
 ghost use Rattle.places.specs.Places.{bytes_of};
-ghost use Rattle.lx_machine.specs.Calls.{first_refusal, argument};
+ghost use Rattle.lx_machine.specs.Calls.{argument, first_refusal};
 ghost use Rattle.lx_machine.specs.Lists.{first_free, first_free_from};
 ghost use Rattle.lx_machine.specs.Pieces.{piece};
-ghost use Rattle.lx_clones.specs.Clones.{has_flag, shares_memory, shares_actions, is_thread, sets_tls, stores_for_parent, clears_for_child, stores_for_child, clone_refusals, no_regs, no_stack, reserved, store_at, stored_tid, tid_pieces, tid_bytes, with_child, place_for, cloned, clone_not_stored, clone_stage, birth_stage, child_regs, clear_address, started, without_child, set_robust_list_refusals, with_robust_list, set_robust_list, is_living, robust_list_of, asked_list, list_answered, get_robust_list};
+ghost use Rattle.lx_machine.specs.Clone.{birth_stage, child_regs, clear_address, clears_for_child, clone_not_stored, clone_refusals, clone_stage, cloned, has_clone_flag, makes_thread, no_regs, no_stack, place_for, reserved, sets_tls, shares_actions, shares_memory, started, store_at, stored_tid, stores_for_child, stores_for_parent, tid_bytes, tid_pieces, with_child, without_child};
+ghost use Rattle.lx_machine.specs.RobustList.{asked_list, get_robust_list, is_living, list_answered, robust_list_of, set_robust_list, set_robust_list_refusals, with_robust_list};
 
 use a64_model::regs::Regs;
 use byteorder::{ByteOrder, LittleEndian};
@@ -31,7 +32,7 @@ const HEAD: u64 = 24;
 /// A flag of the call, by its bit's number.
 fn has_flag(call: &LxCall, bit: u32) -> bool
     requires { bit < 32 }
-    ensures { result ≡ has_flag call.now bit }
+    ensures { result ≡ has_clone_flag call.now bit }
 {
     call.low_argument(0) / (1 << bit) % 2 == 1
 }
@@ -52,7 +53,7 @@ fn shares_actions(call: &LxCall) -> bool
 
 /// CLONE_THREAD.
 fn is_thread(call: &LxCall) -> bool
-    ensures { result ≡ is_thread call.now }
+    ensures { result ≡ makes_thread call.now }
 {
     has_flag(call, 16)
 }

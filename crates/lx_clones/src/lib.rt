@@ -1,7 +1,6 @@
-//! How threads are made in the Linux machine, and their robust lists: the plain functions that compute the definitions of
-//! `specs/`.
+//! How threads are made in the Linux machine, their robust lists, and their death: the functions that compute the definitions of
+//! `lx_machine`'s `Clone` and `RobustList`.
 #![tactic(auto)]
 
 pub mod clones;
-#[cfg(test)]
-mod tests;
+pub mod robust_list;

@@ -2,14 +2,15 @@
 use Rattle.std.proofs.Common.{◌≡◌, ℕ, ◌-◌, ◌==◌, ◌<◌, ◌≤◌, min, is_some, true, false, List, [], ◌∷◌, length, Option, Some, None, refl, arith}
 use Rattle.std.specs.List.{list_any}
 use Rattle.std.proofs.lemmas.Bool.Decides.{nat_tests}
-use Rattle.lx_machine.specs.Lists.{bind, at_place}
+use Rattle.lx_machine.specs.Lists.{at_place, bind}
 use Rattle.lx_machine.specs.Calls.{low_argument}
 use Rattle.lx_machine.specs.declared.calls.LxCall.{LxCall}
 use Rattle.lx_machine.specs.declared.files.Files.{Files}
 use Rattle.lx_machine.specs.declared.files.Interest.{Interest}
 use Rattle.lx_machine.specs.declared.label.Pick.{Pick}
-use Rattle.lx_machine.specs.Interests.{stands, is_picked}
-use Rattle.lx_epolls.specs.Epolls.{most_of, epoll_number, interests_in, interests_of, reports_if, reports_of, epoll_moved, epoll_can_move, held_epoll, first_picks, is_due, named, are_due, is_same, are_distinct, is_left, is_answer, pick_of, first_due, are_apart}
+use Rattle.lx_machine.specs.Interests.{is_picked, stands}
+use Rattle.lx_machine.specs.Epoll.{are_apart, are_distinct, are_due, epoll_number, interests_in, interests_of, is_answer, is_due, is_left, is_same, named}
+use Rattle.lx_machine.specs.EpollWait.{epoll_can_move, epoll_moved, first_due, first_picks, held_epoll, most_of, pick_of, reports_if, reports_of}
 
 same_turns : (a b : ℕ) → (a == b) ≡ (b == a)
 same_turns a b = grind (arith, nat_tests)

@@ -2,14 +2,16 @@
 ghost use Rattle.std.specs.Prelude.{◌≡◌, ◌≤◌, ◌<◌, ◌*◌, ◌+◌, ◌==◌, ◌++◌, ◌∷◌, [], length, slice_set, true, Some, None, is_some, IfErr, IfOk, OnOk, OnErr};
 ghost use Rattle.std.specs.Option.{option_map};
 ghost use Rattle.places.specs.Places.{number_at};
-ghost use Rattle.lx_machine.specs.Lists.{bind, at_place};
+ghost use Rattle.lx_machine.specs.Lists.{at_place, bind};
 ghost use Rattle.lx_machine.specs.Pieces.{piece};
-ghost use Rattle.lx_machine.specs.Calls.{argument, low_argument, answered, refused, first_refusal};
-ghost use Rattle.lx_machine.specs.Interests.{after_report, stands, changed, without_interest};
-ghost use Rattle.lx_files.specs.Files.{descriptor, with_hold, given_back};
-ghost use Rattle.lx_files.specs.Descriptors.{outcome, refuses, has_cloexec};
-ghost use Rattle.lx_epolls.specs.Epolls.{epoll_create_refusals, epoll_create_at, epoll_create_numbers, epoll_create1, control_of, epoll_ctl_refusals, event_pieces, epoll_ctl_pieces, epoll_ctl_stage_of, epoll_ctl_stage, kind_of, epoll_number, epoll_of, file_of, interests_in, interests_of, asked_of, data_of, fetched_number, is_exclusive, is_add, stands_in, descriptor_refusals, interest_refusals, or_else, control_refusal, new_interest, controlled, on_epoll, control, epoll_ctl_unless, epoll_ctl, is_not_positive, epoll_pwait_refusals, epoll_pwait_pieces, has_timeout, epoll_pwait_clock, epoll_pwait_held, epoll_pwait_stage, with_timeout, hold_epoll, epoll_held_file, epoll_held, lets_epoll_go, held_epoll, first_picks, are_apart, most_of, events, is_answer, reports, reports_if, reports_of, epoll_moved, Makes, epoll_can_move, epoll_expired, epoll_interrupted};
-ghost use Rattle.lx_epolls.specs.Epolls as epolls;
+ghost use Rattle.lx_machine.specs.Calls.{answered, argument, first_refusal, low_argument, refused};
+ghost use Rattle.lx_machine.specs.Interests.{after_report, changed, stands, without_interest};
+ghost use Rattle.lx_machine.specs.Files.{descriptor, given_back, with_hold};
+ghost use Rattle.lx_machine.specs.Descriptors.{files_outcome, has_cloexec, refuses};
+ghost use Rattle.lx_machine.specs.Epoll.{are_apart, epoll_number, events, interests_in, interests_of, is_answer, kind_of, on_epoll};
+ghost use Rattle.lx_machine.specs.EpollCreate.{epoll_create1, epoll_create_at, epoll_create_numbers, epoll_create_refusals};
+ghost use Rattle.lx_machine.specs.EpollCtl.{asked_of, control, control_of, control_refusal, controlled, data_of, descriptor_refusals, epoll_ctl, epoll_ctl_pieces, epoll_ctl_refusals, epoll_ctl_stage, epoll_ctl_stage_of, epoll_ctl_unless, epoll_of, event_pieces, fetched_number, file_of, interest_refusals, is_add, is_exclusive, new_interest, or_else, stands_in};
+ghost use Rattle.lx_machine.specs.EpollWait.{MakesFiles, epoll_can_move, epoll_expired, epoll_held, epoll_held_file, epoll_interrupted, epoll_moved, epoll_pwait_clock, epoll_pwait_held, epoll_pwait_pieces, epoll_pwait_refusals, epoll_pwait_stage, first_picks, gives_epoll_back, has_timeout, held_epoll, hold_epoll, is_no_count, most_of, reports, reports_if, reports_of, with_timeout};
 
 use crate::epolls::{append_events, has_due, is_answer, push_due, told};
 use byteorder::{ByteOrder, LittleEndian};
@@ -57,7 +59,7 @@ fn epoll_create_at(
     file: u32,
     number: u32,
 )
-    ensures { outcome files.new call.new ≡ epoll_create_at files.old call.old fd file number }
+    ensures { files_outcome files.new call.new ≡ epoll_create_at files.old call.old fd file number }
 {
     set_place(&mut files.epolls, number, Some(Interests::none(alloc)));
     add_file(files, file, FileKind::Epoll(number), false);
@@ -71,7 +73,7 @@ fn epoll_create_at(
 
 /// Makes an epoll with an open file and a descriptor (epoll_create1(2)).
 pub fn epoll_create1(alloc: Global, files: &mut Files, call: &mut LxCall)
-    ensures { outcome files.new call.new ≡ epoll_create1 files.old call.old }
+    ensures { files_outcome files.new call.new ≡ epoll_create1 files.old call.old }
 {
     let Some(fd) = lowest_from(files, 0) else {
         call.refuse(LinuxErrno::EMFILE);
@@ -357,7 +359,7 @@ fn control(files: &mut Files, call: &LxCall) -> Result<(), NoMemory>
 
 /// Adds, changes or removes an interest of an epoll (epoll_ctl(2)). Where memory is wanting, nothing changes.
 pub fn epoll_ctl(files: &mut Files, call: &mut LxCall) -> Result<(), NoMemory>
-    ensures ok { OnOk result (outcome files.new call.new ≡ epoll_ctl files.old call.old) }
+    ensures ok { OnOk result (files_outcome files.new call.new ≡ epoll_ctl files.old call.old) }
     ensures err { OnErr result ((files.new ≡ files.old) × (call.new ≡ call.old)) }
 {
     match control_refusal(files, call) {
@@ -372,7 +374,7 @@ pub fn epoll_ctl(files: &mut Files, call: &mut LxCall) -> Result<(), NoMemory>
 
 /// Whether it is no positive number, as a signed one.
 fn is_not_positive(most: u32) -> bool
-    ensures { result ≡ is_not_positive most }
+    ensures { result ≡ is_no_count most }
 {
     most == 0 || most >= 1 << 31
 }
@@ -448,7 +450,7 @@ pub fn set_timeout(call: &mut LxCall, clock: u64)
 
 /// The call holds this open file, if it is an epoll. `NoMemory`: one more hold can't be counted.
 fn hold_epoll(files: &mut Files, call: &mut LxCall, file: u32, f: OpenFile) -> Result<(), NoMemory>
-    ensures ok { OnOk result (outcome files.new call.new ≡ epoll_held_file files.old call.old file (Some f)) }
+    ensures ok { OnOk result (files_outcome files.new call.new ≡ epoll_held_file files.old call.old file (Some f)) }
     ensures err { OnErr result ((files.new ≡ files.old) × (call.new ≡ call.old)) }
 {
     match epoll_number(f.kind) {
@@ -464,7 +466,7 @@ fn hold_epoll(files: &mut Files, call: &mut LxCall, file: u32, f: OpenFile) -> R
 /// Hold: the call holds the epoll of its first argument, or is refused. `NoMemory`: one more hold can't be counted; then
 /// nothing changes.
 pub fn epoll_hold(files: &mut Files, call: &mut LxCall) -> Result<(), NoMemory>
-    ensures ok { OnOk result (outcome files.new call.new ≡ epoll_held files.old call.old) }
+    ensures ok { OnOk result (files_outcome files.new call.new ≡ epoll_held files.old call.old) }
     ensures err { OnErr result ((files.new ≡ files.old) × (call.new ≡ call.old)) }
 {
     let Some(d) = named(files, call, 0) else {
@@ -482,7 +484,7 @@ pub fn epoll_hold(files: &mut Files, call: &mut LxCall) -> Result<(), NoMemory>
 
 /// The call gives its epoll back.
 fn let_epoll_go(files: &mut Files, call: &mut LxCall, file: u32)
-    ensures { outcome files.new call.new ≡ lets_epoll_go files.old call.old file }
+    ensures { files_outcome files.new call.new ≡ gives_epoll_back files.old call.old file }
 {
     give_back(files, file);
     call.held = None;
@@ -591,7 +593,7 @@ fn report_of(
     file: u32,
     number: u32,
 ) -> Result<(), LxRefusal>
-    ensures { Makes (reports_of files.old call.old picks.now file number) files.old call.old files.new call.new result }
+    ensures { MakesFiles (reports_of files.old call.old picks.now file number) files.old call.old files.new call.new result }
 {
     let Some(Some(interests)) = files.epolls.get(number as usize) else {
         return Err(LxRefusal::NoStep);
@@ -614,7 +616,7 @@ pub fn epoll_move(
     call: &mut LxCall,
     picks: &[Pick],
 ) -> Result<(), LxRefusal>
-    ensures { Makes (epoll_moved files.old call.old picks.now) files.old call.old files.new call.new result }
+    ensures { MakesFiles (epoll_moved files.old call.old picks.now) files.old call.old files.new call.new result }
 {
     let Some(file) = call.held else {
         return Err(LxRefusal::NoStep);
@@ -627,7 +629,7 @@ pub fn epoll_move(
 
 /// Expire: the wait ends by its deadline, and the call answers 0. Not enabled: it holds no epoll.
 pub fn epoll_expire(files: &mut Files, call: &mut LxCall) -> Result<(), LxRefusal>
-    ensures makes { Makes (epoll_expired files.old call.old) files.old call.old files.new call.new result }
+    ensures makes { MakesFiles (epoll_expired files.old call.old) files.old call.old files.new call.new result }
     ensures no_step { IfErr result (λ e. e ≡ LxRefusal.NoStep) }
 {
     let Some(file) = call.held else {
@@ -640,7 +642,7 @@ pub fn epoll_expire(files: &mut Files, call: &mut LxCall) -> Result<(), LxRefusa
 
 /// Interrupt: the wait ends by a signal, with EINTR. Not enabled: it holds no epoll.
 pub fn epoll_interrupt(files: &mut Files, call: &mut LxCall) -> Result<(), LxRefusal>
-    ensures { Makes (epoll_interrupted files.old call.old) files.old call.old files.new call.new result }
+    ensures { MakesFiles (epoll_interrupted files.old call.old) files.old call.old files.new call.new result }
 {
     let Some(file) = call.held else {
         return Err(LxRefusal::NoStep);

@@ -4,8 +4,9 @@ ghost use Rattle.std.specs.List.{list_any};
 ghost use Rattle.places.specs.Places.{bytes_of};
 ghost use Rattle.lx_machine.specs.Lists.{at_place};
 ghost use Rattle.lx_machine.specs.declared.files.FileKind.TheVariants as kind;
-ghost use Rattle.lx_machine.specs.Interests.{side_holds, is_named, is_picked};
-ghost use Rattle.lx_epolls.specs.Epolls.{if_so, ready_counter, has_space, pipe_holds, ready, ready_at, wanted, told, reported, is_due, named, is_due_interest, are_due, is_same, are_distinct, is_left, is_answer, event_of, events, first_due};
+ghost use Rattle.lx_machine.specs.Interests.{is_named, is_picked, side_holds};
+ghost use Rattle.lx_machine.specs.Epoll.{are_distinct, are_due, event_of, events, has_space, if_so, is_answer, is_due, is_due_interest, is_left, is_same, named, pipe_holds, ready, ready_at, ready_counter, reported, told, wanted};
+ghost use Rattle.lx_machine.specs.EpollWait.{first_due};
 
 use byteorder::{ByteOrder, LittleEndian};
 use linux_abi::epoll::{EPOLLERR, EPOLLHUP, EPOLLIN, EPOLLOUT};

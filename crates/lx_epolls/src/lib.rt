@@ -3,5 +3,3 @@
 
 pub mod epoll_calls;
 pub mod epolls;
-#[cfg(test)]
-mod tests;

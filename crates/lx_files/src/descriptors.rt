@@ -5,8 +5,15 @@ ghost use Rattle.lx_machine.specs.Pieces.{piece};
 ghost use Rattle.lx_machine.specs.declared.calls.LxCall.{LxCall};
 ghost use Rattle.lx_machine.specs.Lists.{at_place};
 ghost use Rattle.lx_machine.specs.Calls.{argument, low_argument};
-ghost use Rattle.lx_files.specs.Files.{descriptor, with_descriptor, with_file};
-ghost use Rattle.lx_files.specs.Descriptors.{outcome, answers, refuses, has_cloexec, has_nonblock, has_semaphore, lowest_from, counter_at, eventfd_at, eventfd2, duplicate_at, duplicate, dup, dup3_to, dup3_of, dup3, access_mode, status_of, get_status, set_status, fcntl, refused_where_open, ioctl, lseek, close, second_free, pipe_at, pipe_from, pipe2};
+ghost use Rattle.lx_machine.specs.Files.{descriptor, with_descriptor, with_file};
+ghost use Rattle.lx_machine.specs.Close.{close};
+ghost use Rattle.lx_machine.specs.Descriptors.{answers, files_outcome, has_cloexec, has_nonblock, has_semaphore, lowest_from, refused_where_open, refuses, second_free};
+ghost use Rattle.lx_machine.specs.Dup.{dup, dup3, dup3_of, dup3_to, duplicate, duplicate_at};
+ghost use Rattle.lx_machine.specs.Eventfd.{counter_at, eventfd2, eventfd_at};
+ghost use Rattle.lx_machine.specs.Fcntl.{access_mode, fcntl, get_status, set_status, status_of};
+ghost use Rattle.lx_machine.specs.Ioctl.{ioctl};
+ghost use Rattle.lx_machine.specs.Lseek.{lseek};
+ghost use Rattle.lx_machine.specs.Pipe.{pipe2, pipe_at, pipe_from};
 
 use crate::files::{
     add_file, close_descriptor, first_free, next_free, place_at, set_descriptor, set_place,
@@ -77,7 +84,7 @@ fn add_counter(files: &mut Files, number: u32, value: u64, flags: u64)
 
 /// A counter, its open file and a descriptor, at these numbers.
 fn eventfd_at(files: &mut Files, call: &mut LxCall, fd: u32, file: u32, number: u32)
-    ensures { outcome files.new call.new ≡ eventfd_at files.old call.old fd file number }
+    ensures { files_outcome files.new call.new ≡ eventfd_at files.old call.old fd file number }
 {
     let flags = flags(call, 1);
     add_counter(files, number, u64::from(call.low_argument(0)), flags);
@@ -92,7 +99,7 @@ fn eventfd_at(files: &mut Files, call: &mut LxCall, fd: u32, file: u32, number: 
 
 /// Makes a counter with an open file and a descriptor (eventfd(2)).
 pub fn eventfd2(files: &mut Files, call: &mut LxCall)
-    ensures { outcome files.new call.new ≡ eventfd2 files.old call.old }
+    ensures { files_outcome files.new call.new ≡ eventfd2 files.old call.old }
 {
     let fd = lowest_from(files, 0);
     let file = first_free(&files.files);
@@ -105,7 +112,7 @@ pub fn eventfd2(files: &mut Files, call: &mut LxCall)
 
 /// Another descriptor for an open file, at the lowest number from `from` on.
 fn duplicate(files: &mut Files, call: &mut LxCall, file: u32, close_on_exec: bool, from: u64)
-    ensures { outcome files.new call.new ≡ duplicate files.old call.old file close_on_exec from }
+    ensures { files_outcome files.new call.new ≡ duplicate files.old call.old file close_on_exec from }
 {
     if from >= DESCRIPTORS as u64 {
         call.refuse(LinuxErrno::EINVAL);
@@ -129,7 +136,7 @@ fn duplicate(files: &mut Files, call: &mut LxCall, file: u32, close_on_exec: boo
 
 /// Makes another descriptor for an open file (dup(2)).
 pub fn dup(files: &mut Files, call: &mut LxCall)
-    ensures { outcome files.new call.new ≡ dup files.old call.old }
+    ensures { files_outcome files.new call.new ≡ dup files.old call.old }
 {
     match named(files, call, 0) {
         Some(d) => duplicate(files, call, d.file, false, 0),
@@ -139,7 +146,7 @@ pub fn dup(files: &mut Files, call: &mut LxCall)
 
 /// The new number names the open file, and what it named before is closed.
 fn dup3_to(files: &mut Files, call: &mut LxCall, file: u32, new: u32)
-    ensures { outcome files.new call.new ≡ dup3_to files.old call.old file new }
+    ensures { files_outcome files.new call.new ≡ dup3_to files.old call.old file new }
 {
     close_descriptor(files, new);
     let made = Descriptor {
@@ -152,7 +159,7 @@ fn dup3_to(files: &mut Files, call: &mut LxCall, file: u32, new: u32)
 
 /// Makes a descriptor of a given number for an open file (dup(2)).
 pub fn dup3(files: &mut Files, call: &mut LxCall)
-    ensures { outcome files.new call.new ≡ dup3 files.old call.old }
+    ensures { files_outcome files.new call.new ≡ dup3 files.old call.old }
 {
     let new = call.low_argument(1);
     match named(files, call, 0) {
@@ -181,7 +188,7 @@ fn status(f: OpenFile) -> u64
 
 /// F_GETFL.
 fn get_status(files: &Files, call: &mut LxCall, file: u32)
-    ensures { outcome files.now call.new ≡ get_status files.now call.old (at_place files.now.files file) }
+    ensures { files_outcome files.now call.new ≡ get_status files.now call.old (at_place files.now.files file) }
 {
     match place_at(&files.files, file) {
         Some(f) => call.answer(status(f)),
@@ -191,7 +198,7 @@ fn get_status(files: &Files, call: &mut LxCall, file: u32)
 
 /// F_SETFL.
 fn set_status(files: &mut Files, call: &mut LxCall, file: u32)
-    ensures { outcome files.new call.new ≡ set_status files.old call.old file (at_place files.old.files file) }
+    ensures { files_outcome files.new call.new ≡ set_status files.old call.old file (at_place files.old.files file) }
 {
     match place_at(&files.files, file) {
         Some(f) => {
@@ -209,7 +216,7 @@ fn set_status(files: &mut Files, call: &mut LxCall, file: u32)
 
 /// F_SETFD.
 fn set_close_flag(files: &mut Files, call: &mut LxCall, fd: u32, file: u32)
-    ensures { outcome files.new call.new ≡ answers (with_descriptor files.old fd (descriptor file (argument call.old 2 % 2 == 1))) call.old 0 }
+    ensures { files_outcome files.new call.new ≡ answers (with_descriptor files.old fd (descriptor file (argument call.old 2 % 2 == 1))) call.old 0 }
 {
     let close_on_exec = call.arguments[2] % 2 == 1;
     set_descriptor(
@@ -225,7 +232,7 @@ fn set_close_flag(files: &mut Files, call: &mut LxCall, fd: u32, file: u32)
 
 /// Reads and changes what a descriptor and its open file are (fcntl(2)).
 pub fn fcntl(files: &mut Files, call: &mut LxCall)
-    ensures { outcome files.new call.new ≡ fcntl files.old call.old }
+    ensures { files_outcome files.new call.new ≡ fcntl files.old call.old }
 {
     let Some(d) = named(files, call, 0) else {
         call.refuse(LinuxErrno::EBADF);
@@ -248,7 +255,7 @@ pub fn fcntl(files: &mut Files, call: &mut LxCall)
 
 /// Refuses the call so where its descriptor is open.
 fn refuse_where_open(files: &Files, call: &mut LxCall, e: LinuxErrno)
-    ensures { outcome files.now call.new ≡ refused_where_open files.now call.old e (at_place files.now.descriptors (low_argument call.old 0)) }
+    ensures { files_outcome files.now call.new ≡ refused_where_open files.now call.old e (at_place files.now.descriptors (low_argument call.old 0)) }
 {
     match named(files, call, 0) {
         Some(_) => call.refuse(e),
@@ -258,21 +265,21 @@ fn refuse_where_open(files: &Files, call: &mut LxCall, e: LinuxErrno)
 
 /// No open file is a terminal (ioctl(2)).
 pub fn ioctl(files: &Files, call: &mut LxCall)
-    ensures { outcome files.now call.new ≡ ioctl files.now call.old }
+    ensures { files_outcome files.now call.new ≡ ioctl files.now call.old }
 {
     refuse_where_open(files, call, LinuxErrno::ENOTTY);
 }
 
 /// No open file has a place in it (lseek(2)).
 pub fn lseek(files: &Files, call: &mut LxCall)
-    ensures { outcome files.now call.new ≡ lseek files.now call.old }
+    ensures { files_outcome files.now call.new ≡ lseek files.now call.old }
 {
     refuse_where_open(files, call, LinuxErrno::ESPIPE);
 }
 
 /// Closes a descriptor (close(2)).
 pub fn close(files: &mut Files, call: &mut LxCall)
-    ensures { outcome files.new call.new ≡ close files.old call.old }
+    ensures { files_outcome files.new call.new ≡ close files.old call.old }
 {
     let fd = call.low_argument(0);
     match named(files, call, 0) {
@@ -349,7 +356,7 @@ fn pipe_at(
     call: &mut LxCall,
     at: PipeNumbers,
 ) -> Result<(), NoMemory>
-    ensures ok { OnOk result (outcome files.new call.new ≡ pipe_at files.old call.old at.pipe at.read_file at.write_file at.read_fd at.write_fd) }
+    ensures ok { OnOk result (files_outcome files.new call.new ≡ pipe_at files.old call.old at.pipe at.read_file at.write_file at.read_fd at.write_fd) }
     ensures err { OnErr result ((files.new ≡ files.old) × (call.new ≡ call.old)) }
 {
     let parts = pipe_parts(alloc, call.arguments[0], at.read_fd, at.write_fd)?;
@@ -432,7 +439,7 @@ fn free_numbers(files: &Files) -> Result<PipeNumbers, LinuxErrno>
 /// Makes a pipe with an open file and a descriptor for each of its ends (pipe(2)). Where memory is wanting, nothing
 /// changes.
 pub fn pipe2(alloc: Global, files: &mut Files, call: &mut LxCall) -> Result<(), NoMemory>
-    ensures ok { OnOk result (outcome files.new call.new ≡ pipe2 files.old call.old) }
+    ensures ok { OnOk result (files_outcome files.new call.new ≡ pipe2 files.old call.old) }
     ensures err { OnErr result ((files.new ≡ files.old) × (call.new ≡ call.old)) }
 {
     match free_numbers(files) {

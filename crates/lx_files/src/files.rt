@@ -1,9 +1,9 @@
 //! Open files, and what ends with them.
 ghost use Rattle.std.specs.Prelude.{◌≡◌, ◌<◌, ◌+◌, ◌^◌, ◌≤◌, drop, length, slice_set, IfSome, OnErr, OnOk};
 ghost use Rattle.std.specs.List.{list_any};
-ghost use Rattle.lx_machine.specs.Lists.{at_place, without_place, first_free, first_free_from};
+ghost use Rattle.lx_machine.specs.Lists.{at_place, first_free, first_free_from, without_place};
 ghost use Rattle.lx_machine.specs.Interests.{armed_on, without_interests};
-ghost use Rattle.lx_files.specs.Files.{names, is_unnamed, is_read_end, is_write_end, is_open_as, has_reader, has_writer, without_pipe, after_end_of, without_file, ended_if_unnamed, settled, held_once_more, held_once_less, with_hold, given_back, with_descriptor, closed, with_file};
+ghost use Rattle.lx_machine.specs.Files.{after_end_of, closed, closed_if_unnamed, ended_if_unnamed, given_back, has_reader, has_writer, held_once_less, held_once_more, is_open_as, is_read_end, is_unnamed, is_write_end, names, with_descriptor, with_file, with_hold, without_file, without_pipe};
 
 use crate::interests::{arm_on, remove_interests};
 use lx_machine::buffer::NoMemory;
@@ -169,7 +169,7 @@ fn end_file(files: &mut Files, file: u32, kind: FileKind)
 
 /// Ends the open file where nothing names it any more.
 fn settle(files: &mut Files, file: u32)
-    ensures { files.new ≡ settled files.old file }
+    ensures { files.new ≡ closed_if_unnamed files.old file }
 {
     if let Some(f) = place_at(&files.files, file) {
         if is_unnamed(files, file, f) {

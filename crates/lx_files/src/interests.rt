@@ -1,7 +1,7 @@
 //! What changes in all epolls at once (epoll(7)).
 ghost use Rattle.std.specs.Prelude.{◌≡◌, ◌≤◌, ◌++◌, map, take, drop, length};
 ghost use Rattle.std.specs.Option.{option_map};
-ghost use Rattle.lx_machine.specs.Interests.{without_those_in, armed_for, armed_on, without_interests, side_holds, without_first_of, drained_side};
+ghost use Rattle.lx_machine.specs.Interests.{armed_for, armed_on, drained_side, side_holds, without_first_of, without_interests, without_those_in};
 
 use lx_machine::files::{FileKind, Files, Interests, OpenFile};
 use lx_machine::label::LxSide;

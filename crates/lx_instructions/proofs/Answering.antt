@@ -11,12 +11,12 @@ use Rattle.a64_model.specs.declared.access.Access.TheVariants as access
 use Rattle.a64_model.specs.declared.access.Answer.{Answer}
 use Rattle.a64_model.specs.declared.access.Answer.TheVariants as answer
 use Rattle.a64_model.specs.declared.access.SwapOp.{SwapOp}
-use Rattle.guest_mem.specs.Swaps.{has_outcome}
+use Rattle.a64_model.specs.Swaps.{has_outcome}
 use Rattle.places.specs.Places.{number_of}
 use Rattle.lx_memory.specs.Bytes.{bytes_at}
 use Rattle.lx_memory.specs.declared.right.Right.TheVariants.{Read, Write}
 use Rattle.lx_memory.specs.Queries.{first_lacking}
-use Rattle.lx_machine.specs.Instructions.{Answered, accessed, load, store, store_exclusive, swap, has_mark, writes, answers}
+use Rattle.lx_machine.specs.Instruction.{Answered, accessed, answers_access, has_mark, loaded, store_exclusive, stored_at, swapped, writes}
 use Rattle.lx_instructions.specs.Accesses.{IsNoCall, is_supervisor_call}
 
 goes_on : (regs : Regs) (i : Instr) → is_supervisor_call i ≡ false → IsNoCall (followed_by regs i)
@@ -68,11 +68,11 @@ no_call regs i answer.Done is = goes_on regs i is
 no_call regs i (answer.Bytes bytes) is = goes_on regs i is
 no_call regs i answer.NoMark is = goes_on regs i is
 
-loads : (pages : Pages) (mark : Option ℕ) (at len : ℕ) (marks : Bool) (o : Option ℕ) → IsAnswer (Ok (access.Load at len marks)) (load pages mark at len marks o).answer
+loads : (pages : Pages) (mark : Option ℕ) (at len : ℕ) (marks : Bool) (o : Option ℕ) → IsAnswer (Ok (access.Load at len marks)) (loaded pages mark at len marks o).answer
 loads pages mark at len marks (Some lacking) = tt
 loads pages mark at len marks None = tt
 
-stores : (pages : Pages) (mark : Option ℕ) (at len : ℕ) (bytes stored : List ℕ) (o : Option ℕ) → IsAnswer (Ok (access.Store at len bytes false)) (store pages mark at stored o).answer
+stores : (pages : Pages) (mark : Option ℕ) (at len : ℕ) (bytes stored : List ℕ) (o : Option ℕ) → IsAnswer (Ok (access.Store at len bytes false)) (stored_at pages mark at stored o).answer
 stores pages mark at len bytes stored (Some lacking) = tt
 stores pages mark at len bytes stored None = tt
 
@@ -83,16 +83,16 @@ either at len bytes false x y g h = h
 stores_exclusive : (pages : Pages) (mark : Option ℕ) (at len : ℕ) (bytes stored : List ℕ) (o : Option ℕ) → IsAnswer (Ok (access.Store at len bytes true)) (store_exclusive pages mark at stored o).answer
 stores_exclusive pages mark at len bytes stored (Some lacking) = tt
 stores_exclusive pages mark at len bytes stored None =
-    either at len bytes (has_mark mark at) (writes pages None at stored answer.Done) (answers pages None answer.NoMark) tt tt
+    either at len bytes (has_mark mark at) (writes pages None at stored answer.Done) (answers_access pages None answer.NoMark) tt tt
 
-swapped : (at len : ℕ) (op : SwapOp) (value expected : ℕ) (b : Bool) (x y : Answered) → IsAnswer (Ok (access.Swap at len op value expected)) x.answer → IsAnswer (Ok (access.Swap at len op value expected)) y.answer → IsAnswer (Ok (access.Swap at len op value expected)) (if b then x else y).answer
-swapped at len op value expected true x y g h = g
-swapped at len op value expected false x y g h = h
+whichever : (at len : ℕ) (op : SwapOp) (value expected : ℕ) (b : Bool) (x y : Answered) → IsAnswer (Ok (access.Swap at len op value expected)) x.answer → IsAnswer (Ok (access.Swap at len op value expected)) y.answer → IsAnswer (Ok (access.Swap at len op value expected)) (if b then x else y).answer
+whichever at len op value expected true x y g h = g
+whichever at len op value expected false x y g h = h
 
-swaps : (pages : Pages) (mark : Option ℕ) (at len : ℕ) (op : SwapOp) (value expected : ℕ) (o : Option ℕ) → IsAnswer (Ok (access.Swap at len op value expected)) (swap pages mark at len op value expected o).answer
+swaps : (pages : Pages) (mark : Option ℕ) (at len : ℕ) (op : SwapOp) (value expected : ℕ) (o : Option ℕ) → IsAnswer (Ok (access.Swap at len op value expected)) (swapped pages mark at len op value expected o).answer
 swaps pages mark at len op value expected (Some lacking) = tt
 swaps pages mark at len op value expected None =
-    swapped at len op value expected (has_outcome op (number_of (bytes_at pages at len)) expected) _ _ tt tt
+    whichever at len op value expected (has_outcome op (number_of (bytes_at pages at len)) expected) _ _ tt tt
 
 pub is_answer : (pages : Pages) (mark : Option ℕ) (a : Access) → IsAnswer (Ok a) (accessed pages mark a).answer
 is_answer pages mark access.None = tt

@@ -4,7 +4,7 @@ use Rattle.std.proofs.Math.Seq.{take-append_seam}
 use Rattle.page_store.specs.Pages.{Pages}
 use Rattle.lx_memory.specs.Bytes.{bytes_at}
 use Rattle.lx_memory.proofs.Stored.{length-bytes_at}
-use Rattle.lx_machine.specs.Instructions.{filled}
+use Rattle.lx_machine.specs.Instruction.{filled}
 
 drop_zeros : (count most : ℕ) → drop {A = ℕ} count (replicate most 0) ≡ replicate (most - count) 0
 drop_zeros zero most = let same : most ≡ most - 0 = omega arith in ap (λ n. replicate n 0) same

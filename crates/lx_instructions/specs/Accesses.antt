@@ -7,7 +7,7 @@ use Rattle.a64_model.specs.declared.access.Next.{Next}
 use Rattle.a64_model.specs.declared.instr.Instr.{Instr}
 use Rattle.a64_model.specs.declared.instr.Instr.TheVariants as instr
 use Rattle.a64_model.specs.declared.access.Next.TheVariants.{Call}
-use Rattle.lx_machine.specs.Instructions.{Answered, Ran}
+use Rattle.lx_machine.specs.Instruction.{Answered, Ran}
 use Rattle.lx_machine.specs.declared.threads.LxThread.{LxThread}
 use Rattle.lx_instructions.specs.declared.access.Answered.{Answered as Told}
 use Rattle.lx_instructions.specs.declared.instruction.Written.{Written}

@@ -2,15 +2,14 @@
 ghost use Rattle.std.specs.Prelude.{◌≡◌, ◌≤◌, take, length, None};
 ghost use Rattle.lx_memory.specs.Bytes.{bytes_at, IsMapped};
 ghost use Rattle.lx_memory.specs.Queries.{first_lacking};
-ghost use Rattle.lx_machine.specs.Instructions as spec;
-ghost use Rattle.lx_machine.specs.Instructions.{filled, has_mark, Answered};
-ghost use Rattle.guest_mem.specs.Swaps.{outcome};
+ghost use Rattle.lx_machine.specs.Instruction.{Answered, accessed, filled, has_mark, loaded, store_exclusive, stored_at, swapped, writes};
+ghost use Rattle.a64_model.specs.Swaps.{outcome};
 ghost use Rattle.places.specs.Places.{bytes_of, number_of};
 ghost use Rattle.lx_instructions.specs.Accesses.{Has, IsSmall};
 
 use a64_model::access::{Access, Answer, Fault, SwapOp};
+use a64_model::swaps::{has_outcome_of, outcome_of};
 use byteorder::{ByteOrder, LittleEndian};
-use guest_mem::swaps::{has_outcome_of, outcome_of};
 use lx_memory::queries::first_lacking;
 use lx_memory::{Memory, Right};
 
@@ -57,7 +56,7 @@ fn bytes_in(memory: &Memory, at: u64, len: u8) -> [u8; 32]
 /// A load, which may leave a mark.
 fn load(memory: &Memory, mark: Option<u64>, at: u64, len: u8, marks: bool) -> Answered
     requires { len ≤ 32 }
-    ensures { Has memory.now result (spec.load memory.now mark at len marks (first_lacking Right.Read memory.now at len)) }
+    ensures { Has memory.now result (loaded memory.now mark at len marks (first_lacking Right.Read memory.now at len)) }
 {
     if let Some(lacking) = first_lacking(memory, Right::Read, at, u64::from(len)) {
         return faults_at(mark, lacking);
@@ -70,7 +69,7 @@ fn load(memory: &Memory, mark: Option<u64>, at: u64, len: u8, marks: bool) -> An
 /// Writes bytes into mapped pages, and answers so.
 fn writes(memory: &mut Memory, mark: Option<u64>, at: u64, bytes: &[u8], answer: Answer) -> Answered
     requires { IsMapped memory.old at (length bytes.now) }
-    ensures { Has memory.new result (spec.writes memory.old mark at bytes.now answer) }
+    ensures { Has memory.new result (writes memory.old mark at bytes.now answer) }
 {
     memory.store(at, bytes);
     Answered {
@@ -83,7 +82,7 @@ fn writes(memory: &mut Memory, mark: Option<u64>, at: u64, bytes: &[u8], answer:
 
 /// A store.
 fn store(memory: &mut Memory, mark: Option<u64>, at: u64, bytes: &[u8]) -> Answered
-    ensures { Has memory.new result (spec.store memory.old mark at bytes.now (first_lacking Right.Write memory.old at (length bytes.now))) }
+    ensures { Has memory.new result (stored_at memory.old mark at bytes.now (first_lacking Right.Write memory.old at (length bytes.now))) }
 {
     if let Some(lacking) = first_lacking(memory, Right::Write, at, bytes.len() as u64) {
         return faults_at(mark, lacking);
@@ -103,7 +102,7 @@ fn has_mark(mark: Option<u64>, at: u64) -> bool
 
 /// An exclusive store: it stores where the mark stands, and ends the mark.
 fn store_exclusive(memory: &mut Memory, mark: Option<u64>, at: u64, bytes: &[u8]) -> Answered
-    ensures { Has memory.new result (spec.store_exclusive memory.old mark at bytes.now (first_lacking Right.Write memory.old at (length bytes.now))) }
+    ensures { Has memory.new result (store_exclusive memory.old mark at bytes.now (first_lacking Right.Write memory.old at (length bytes.now))) }
 {
     if let Some(lacking) = first_lacking(memory, Right::Write, at, bytes.len() as u64) {
         return faults_at(mark, lacking);
@@ -144,7 +143,7 @@ fn exchange(
     requires some { 1 ≤ len }
     requires most { len ≤ 8 }
     requires mapped { IsMapped memory.old at len }
-    ensures { Has memory.new result (spec.swap memory.old mark at len op value expected None) }
+    ensures { Has memory.new result (swapped memory.old mark at len op value expected None) }
 {
     let bytes = bytes_in(memory, at, len);
     let old = number_in(&bytes[..len as usize]);
@@ -167,7 +166,7 @@ fn swap(
 ) -> Answered
     requires some { 1 ≤ len }
     requires most { len ≤ 8 }
-    ensures { Has memory.new result (spec.swap memory.old mark at len op value expected (first_lacking Right.Write memory.old at len)) }
+    ensures { Has memory.new result (swapped memory.old mark at len op value expected (first_lacking Right.Write memory.old at len)) }
 {
     if let Some(lacking) = first_lacking(memory, Right::Write, at, u64::from(len)) {
         return faults_at(mark, lacking);
@@ -179,7 +178,7 @@ fn swap(
 /// `NoMark` at an exclusive store whose mark doesn't stand, and `Fault` with the first byte that lacks its right.
 pub fn accessed(memory: &mut Memory, mark: Option<u64>, access: Access) -> Answered
     requires { IsSmall access }
-    ensures { Has memory.new result (spec.accessed memory.old mark access) }
+    ensures { Has memory.new result (accessed memory.old mark access) }
 {
     match access {
         Access::None => answers(mark, Answer::Done),

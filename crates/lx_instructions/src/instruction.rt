@@ -6,9 +6,7 @@ ghost use Rattle.lx_memory.specs.Bytes.{bytes_at, IsMapped};
 ghost use Rattle.a64_model.specs.Exec.{needed};
 ghost use Rattle.a64_model.specs.Registers.{advanced};
 ghost use Rattle.lx_machine.specs.Threads.{trapped, with_regs};
-ghost use Rattle.lx_machine.specs.Instructions as spec;
-ghost use Rattle.lx_machine.specs.Instructions.{trap_signal, called};
-ghost use Rattle.lx_calls.specs.Entry.{entered};
+ghost use Rattle.lx_machine.specs.Instruction.{accessed, called, finished, followed, ran, trap_signal, with_access};
 ghost use Rattle.lx_instructions.specs.Accesses.{HasRun, AsksLittle, IsSmall, IsNoCall, is_supervisor_call};
 
 use crate::access::accessed;
@@ -80,7 +78,7 @@ fn called(alloc: Global, regs: &Regs) -> LxCall
 /// What comes after an instruction that is no SVC: nothing, or a trap.
 fn follow(thread: &mut LxThread, next: Next)
     requires { IsNoCall next }
-    ensures { thread.new ≡ spec.followed entered thread.old next }
+    ensures { thread.new ≡ followed thread.old next }
 {
     if let Next::Trap {
         signal,
@@ -101,7 +99,7 @@ fn is_supervisor_call(instr: Instr) -> bool
 
 /// SVC: the thread enters the call.
 fn call(alloc: Global, thread: &mut LxThread) -> Result<(), NoMemory>
-    ensures ok { OnOk result (thread.new ≡ spec.followed entered (with_regs thread.old (advanced thread.old.regs)) Next.Call) }
+    ensures ok { OnOk result (thread.new ≡ followed (with_regs thread.old (advanced thread.old.regs)) Next.Call) }
     ensures err { OnErr result (thread.new ≡ thread.old) }
 {
     let mut call = called(alloc, &thread.regs);
@@ -124,7 +122,7 @@ fn execute_access(
     requires asked { needed thread.old.regs instr ≡ Ok access }
     requires small { IsSmall access }
     requires no_call { is_supervisor_call instr ≡ false }
-    ensures { HasRun memory.new thread.new result (spec.finished entered thread.old instr (spec.accessed memory.old thread.old.mark access)) }
+    ensures { HasRun memory.new thread.new result (finished thread.old instr (accessed memory.old thread.old.mark access)) }
 {
     let answered = accessed(memory, thread.mark, access);
     thread.mark = answered.mark;
@@ -146,7 +144,7 @@ fn execute(
     instr: Instr,
 ) -> Result<Written, NoMemory>
     requires { HasWidths instr }
-    ensures ok { IfOk result (λ written. HasRun memory.new thread.new written (spec.with_access entered memory.old thread.old instr (needed thread.old.regs instr))) }
+    ensures ok { IfOk result (λ written. HasRun memory.new thread.new written (with_access memory.old thread.old instr (needed thread.old.regs instr))) }
     ensures err { OnErr result ((memory.new ≡ memory.old) × (thread.new ≡ thread.old)) }
 {
     if is_supervisor_call(instr) {
@@ -166,7 +164,7 @@ fn execute(
 /// without the right to execute SIGSEGV, and a word without a row SIGILL, each as a trap of the thread. Where memory is
 /// wanting, nothing changes.
 pub fn run(alloc: Global, memory: &mut Memory, thread: &mut LxThread) -> Result<Written, NoMemory>
-    ensures ok { IfOk result (λ written. HasRun memory.new thread.new written (spec.ran entered memory.old thread.old)) }
+    ensures ok { IfOk result (λ written. HasRun memory.new thread.new written (ran memory.old thread.old)) }
     ensures err { OnErr result ((memory.new ≡ memory.old) × (thread.new ≡ thread.old)) }
 {
     let pc = thread.regs.pc;

@@ -1,1 +1,3 @@
 pub mod Waiters
+pub mod Places
+pub mod Steps

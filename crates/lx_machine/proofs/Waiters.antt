@@ -1,6 +1,6 @@
 -- The first waiters that pass a test, one at a time.
 use Rattle.std.proofs.Common.{◌≡◌, ℕ, zero, suc, ◌+◌, ◌-◌, ◌<◌, ◌≤◌, Bool, List, [], ◌∷◌, ◌++◌, append_assoc, length, find, Some, None, refl, sym, arith, append-nil}
-use Rattle.lx_machine.specs.Queue.{first_of, without_first, without_thread}
+use Rattle.lx_machine.specs.Queue.{first_of, without_first, without_waiters_of}
 use Rattle.lx_machine.specs.declared.threads.LxWaiter.{LxWaiter}
 
 -- where none passes, none is taken
@@ -53,6 +53,6 @@ pub none_more : (n : ℕ) (test : LxWaiter → Bool) (ws taken : List LxWaiter) 
 none_more n test ws taken h = let a = none_taken n test ws h in rw a (sym (append-nil taken))
 
 -- a thread that leaves makes no more waiters
-pub fewer : (tid : ℕ) (ws : List LxWaiter) → length (without_thread tid ws) ≤ length ws
+pub fewer : (tid : ℕ) (ws : List LxWaiter) → length (without_waiters_of tid ws) ≤ length ws
 fewer tid [] = omega arith
 fewer tid (w ∷ ws) = let ih = fewer tid ws in grind arith

@@ -1,6 +1,6 @@
 -- Calls that have been entered: how they stand, and what follows of a result. Source: syscall(2), intro(2), errno(3).
-use Rattle.std.specs.Prelude.{ℕ, ◌%◌, ◌^◌, ◌==◌, Bool, false, bit_and, min, if◌then◌else◌, List, [], ◌∷◌, length, Option, Some, None, slice_index}
 use Rattle.std.proofs.Math.Bool.{not}
+use Rattle.std.specs.Prelude.{Bool, List, None, Option, Some, [], bit_and, false, if◌then◌else◌, length, min, slice_index, ℕ, ◌%◌, ◌==◌, ◌^◌, ◌∷◌}
 use Rattle.linux_abi.specs.LinuxErrno.{answer_of}
 use Rattle.linux_abi.specs.declared.errno.LinuxErrno.{LinuxErrno}
 use Rattle.lx_machine.specs.Pieces.{piece}

@@ -1,18 +1,18 @@
 -- The interests of an epoll, and how they change. An interest is named by its open file and the descriptor for which it was
 -- added. Source: epoll(7), epoll_ctl(2).
-use Rattle.std.specs.Prelude.{ℕ, ◌/◌, ◌%◌, ◌^◌, ◌==◌, Bool, true, false, ◌&&◌, if◌then◌else◌, List, map, filter, drop, Option, Some, None}
 use Rattle.std.proofs.Math.Bool.{not}
 use Rattle.std.specs.List.{list_any}
 use Rattle.std.specs.Option.{option_map}
+use Rattle.std.specs.Prelude.{Bool, List, None, Option, Some, drop, false, filter, if◌then◌else◌, map, true, ℕ, ◌%◌, ◌&&◌, ◌/◌, ◌==◌, ◌^◌}
 use Rattle.lx_machine.specs.Lists.{at_place}
-use Rattle.lx_machine.specs.declared.files.Files.{Files}
 use Rattle.lx_machine.specs.declared.files.FileKind.{FileKind}
-use Rattle.lx_machine.specs.declared.files.FileKind.TheVariants as kind
+use Rattle.lx_machine.specs.declared.files.Files.{Files}
 use Rattle.lx_machine.specs.declared.files.Interest.{Interest}
 use Rattle.lx_machine.specs.declared.files.OpenFile.{OpenFile}
 use Rattle.lx_machine.specs.declared.label.LxSide.{LxSide}
-use Rattle.lx_machine.specs.declared.label.LxSide.TheVariants as side
 use Rattle.lx_machine.specs.declared.label.Pick.{Pick}
+use Rattle.lx_machine.specs.declared.files.FileKind.TheVariants as kind
+use Rattle.lx_machine.specs.declared.label.LxSide.TheVariants as side
 
 -- ---- names
 

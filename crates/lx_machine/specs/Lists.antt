@@ -1,5 +1,5 @@
 -- Words on lists and options that the definitions share.
-use Rattle.std.specs.Prelude.{ℕ, suc, List, [], ◌∷◌, Option, Some, None, slice_get, slice_set}
+use Rattle.std.specs.Prelude.{List, None, Option, Some, [], slice_get, slice_set, suc, ℕ, ◌∷◌}
 
 -- what follows from a value, if there is one
 abbrev pub bind : {A B : Type 0} → Option A → (A → Option B) → Option B

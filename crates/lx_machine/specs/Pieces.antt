@@ -1,13 +1,13 @@
 -- The pieces of guest memory that a call copies (readv(2): iovec).
-use Rattle.std.specs.Prelude.{ℕ, ◌+◌, ◌-◌, ◌==◌, min, List, [], ◌∷◌, if◌then◌else◌}
+use Rattle.std.specs.Prelude.{List, [], if◌then◌else◌, min, ℕ, ◌+◌, ◌-◌, ◌==◌, ◌∷◌}
 use Rattle.lx_machine.specs.declared.calls.Piece.{Piece}
 
 abbrev pub piece : ℕ → ℕ → Piece
 piece at len = record { at = at; len = len }
 
-abbrev pub without_first : List Piece → List Piece
-without_first [] = []
-without_first (p ∷ ps) = ps
+abbrev pub behind_first : List Piece → List Piece
+behind_first [] = []
+behind_first (p ∷ ps) = ps
 
 -- the lengths of the pieces together
 abbrev pub total : List Piece → ℕ

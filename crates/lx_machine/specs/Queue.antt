@@ -1,8 +1,19 @@
 -- The futex queue: which waiters an operation picks, and what it leaves of the queue. Source: futex(2).
-use Rattle.std.specs.Prelude.{ℕ, zero, suc, ◌==◌, Bool, ◌&&◌, bit_and, if◌then◌else◌, List, [], ◌∷◌, ◌++◌, map}
 use Rattle.std.proofs.Math.Bool.{not}
-use Rattle.std.specs.List.{list_any, filter}
+use Rattle.std.specs.List.{filter, list_any}
+use Rattle.std.specs.Prelude.{Bool, List, [], bit_and, if◌then◌else◌, map, suc, zero, ℕ, ◌&&◌, ◌++◌, ◌-◌, ◌==◌, ◌∷◌}
+use Rattle.lx_machine.specs.declared.calls.LxCall.{LxCall}
 use Rattle.lx_machine.specs.declared.threads.LxWaiter.{LxWaiter}
+
+-- ---- steps
+
+-- the queue and the call after a step
+pub record QueueOutcome : Type 0 where
+  pub queue : List LxWaiter
+  pub call : LxCall
+
+abbrev pub queue_outcome : List LxWaiter → LxCall → QueueOutcome
+queue_outcome ws c = record { queue = ws; call = c }
 
 -- a waiter at this address with one of these bits
 abbrev pub matches : ℕ → ℕ → LxWaiter → Bool
@@ -17,8 +28,8 @@ abbrev pub is_queued : ℕ → List LxWaiter → Bool
 is_queued tid ws = list_any (is_thread tid) ws
 
 -- the waiters without those of this thread
-abbrev pub without_thread : ℕ → List LxWaiter → List LxWaiter
-without_thread tid ws = filter (λ w. not (is_thread tid w)) ws
+abbrev pub without_waiters_of : ℕ → List LxWaiter → List LxWaiter
+without_waiters_of tid ws = filter (λ w. not (is_thread tid w)) ws
 
 -- the first n that pass a test, in their order
 abbrev pub first_of : ℕ → (LxWaiter → Bool) → List LxWaiter → List LxWaiter
@@ -49,9 +60,9 @@ abbrev pub all_bits : ℕ
 all_bits = 0xffffffff
 
 -- the first waiters at one address move to another, and to the end of the queue in their order
-abbrev pub moved : ℕ → ℕ → ℕ → List LxWaiter → List LxWaiter
-moved from to most ws = released from most all_bits ws ++ map (moved_to to) (leaving from most all_bits ws)
+abbrev pub waiters_moved : ℕ → ℕ → ℕ → List LxWaiter → List LxWaiter
+waiters_moved from to most ws = released from most all_bits ws ++ map (moved_to to) (leaving from most all_bits ws)
 
 -- Requeue: some waiters are released, and of those that are left the first ones move
-abbrev pub requeued : ℕ → ℕ → ℕ → ℕ → List LxWaiter → List LxWaiter
-requeued from to wakes moves ws = moved from to moves (released from wakes all_bits ws)
+abbrev pub after_requeue : ℕ → ℕ → ℕ → ℕ → List LxWaiter → List LxWaiter
+after_requeue from to wakes moves ws = waiters_moved from to moves (released from wakes all_bits ws)

@@ -1,16 +1,18 @@
 -- Words on threads. A mark is the exclusive monitor of a thread (DDI 0487, B2.9): it ends by a write of another thread to
 -- its granule.
-use Rattle.std.specs.Prelude.{ℕ, suc, ◌+◌, ◌-◌, ◌==◌, Bool, true, false, ◌&&◌, nat_le, if◌then◌else◌, List, [], ◌∷◌, Option, Some, None, ℤ}
-use Rattle.places.specs.Places as place
+use Rattle.page_store.specs.Pages.{Pages}
+use Rattle.std.proofs.Math.Bool.{not}
+use Rattle.std.specs.Prelude.{Bool, List, None, Option, Some, [], false, if◌then◌else◌, is_some, nat_le, suc, true, ℕ, ℤ, ◌&&◌, ◌+◌, ◌-◌, ◌==◌, ◌∷◌}
 use Rattle.a64_model.specs.declared.regs.Regs.{Regs}
 use Rattle.linux_abi.specs.declared.signals.LinuxSig.{LinuxSig}
-use Rattle.lx_machine.specs.Lists.{with_place, without_place}
-use Rattle.lx_machine.specs.declared.state.LinuxState.{LinuxState}
+use Rattle.lx_machine.specs.Lists.{at_place, bind, with_place, without_place}
 use Rattle.lx_machine.specs.declared.calls.LxCall.{LxCall}
 use Rattle.lx_machine.specs.declared.signals.Origin.TheVariants.{Address}
+use Rattle.lx_machine.specs.declared.state.LinuxState.{LinuxState}
 use Rattle.lx_machine.specs.declared.threads.Life.{Life}
 use Rattle.lx_machine.specs.declared.threads.Life.TheVariants.{Live}
 use Rattle.lx_machine.specs.declared.threads.LxThread.{LxThread}
+use Rattle.places.specs.Places as place
 
 -- clone has let it start, and it has not left
 abbrev pub is_live : Life → Bool
@@ -66,3 +68,33 @@ unmarked_from at s first last (t ∷ ts) = (if at == s then t else unmarked firs
 -- the threads after the thread in slot s has written so many bytes from an address on
 abbrev pub after_write : ℕ → ℕ → ℕ → List (Option LxThread) → List (Option LxThread)
 after_write s at len ts = if len == 0 then ts else unmarked_from 0 s (place.granule at) (place.granule (at + len - 1)) ts
+
+-- no thread stands in these places
+abbrev pub has_no_thread : List (Option LxThread) → Bool
+has_no_thread [] = true
+has_no_thread (None ∷ ts) = has_no_thread ts
+has_no_thread (Some t ∷ ts) = false
+
+-- What a step makes of a thread in a call: of the state in which the thread's place is free, the slot, the thread in no
+-- call, and the call. None is no step
+abbrev pub InCall : Type 0
+InCall = LinuxState → ℕ → LxThread → LxCall → Option LinuxState
+
+-- What a step makes of a thread: of the state in which the thread's place is free, the slot, and the thread
+abbrev pub OfThread : Type 0
+OfThread = LinuxState → ℕ → LxThread → Option LinuxState
+
+-- ---- threads that may step
+
+-- a live thread in no call, without a trap, a signal to be delivered, or its doom
+abbrev pub is_user : LxThread → Bool
+is_user t = is_live t.life && not (is_some t.call) && not (is_some t.trap) && not (is_some t.taken) && not t.is_doomed
+
+abbrev pub outside_call : LinuxState → ℕ → (LxThread → Option LinuxState) → Option LinuxState
+outside_call L s f = bind (at_place L.threads s) (λ t. if is_user t then f t else None)
+
+-- ---- what is written
+
+-- memory is this now, where the thread in slot s has written so many bytes from an address on: that ends the marks of others
+abbrev pub has_written : LinuxState → ℕ → Pages → ℕ → ℕ → LinuxState
+has_written L s pages at len = record L { space = record L.space { pages = pages }; threads = after_write s at len L.threads }

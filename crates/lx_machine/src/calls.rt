@@ -1,12 +1,12 @@
 //! Calls that have been entered.
 ghost use Rattle.std.specs.Prelude.{◌≡◌, ◌<◌, [], ◌++◌, ◌∷◌, Some, None, if◌then◌else◌, IfOk, OnOk, OnErr};
 ghost use Rattle.lx_machine.specs.Calls.{has_other};
-ghost use Rattle.lx_machine.specs.Pieces.{piece, without_first};
+ghost use Rattle.lx_machine.specs.Pieces.{behind_first, piece};
 
 use crate::buffer::{Bytes, NoMemory};
 use crate::death::Death;
 use crate::futexes::{Mark, Requeue, Wait, Wake, WakeOp};
-use crate::signals::Kept;
+use crate::signals::SigInfo;
 use linux_abi::{LinuxErrno, answer};
 use std::alloc::Global;
 use std::marker::Model;
@@ -69,7 +69,7 @@ impl Pieces {
 
     /// Lets the first piece go, if there is one.
     pub fn remove_first(&mut self)
-        ensures { self.new ≡ without_first self.old }
+        ensures { self.new ≡ behind_first self.old }
     {
         if !self.items.is_empty() {
             self.items.remove(0);
@@ -102,11 +102,11 @@ pub struct LxCall {
     pub child: Option<u8>,
     pub death: Option<Death>,
     pub result: Option<u64>,
-    pub kept: Option<Kept>,
+    pub kept: Option<SigInfo>,
 }
 
 impl LxCall {
-    ghost use Rattle.lx_machine.specs.Calls.{new_call, low_argument, answered, answered_with, refused};
+    ghost use Rattle.lx_machine.specs.Calls.{answered, answered_with, low_argument, new_call, refused};
 
     /// A call as SVC finds it: the number of x8 and these arguments (syscall(2)). Takes no memory.
     pub fn new(alloc: Global, number: u64, arguments: [u64; 6]) -> LxCall

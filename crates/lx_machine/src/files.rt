@@ -1,7 +1,7 @@
 //! Descriptors, open files, counters and interests (open(2), pipe(7), eventfd(2), epoll(7)), and all of them together.
 ghost use Rattle.std.specs.Prelude.{◌≡◌, ◌≤◌, ◌++◌, ◌∷◌, drop, take, length, map, filter, OnOk, OnErr, []};
 ghost use Rattle.lx_machine.specs.Lists.{at_place};
-ghost use Rattle.lx_machine.specs.Interests.{is_named, in_place_of, changed, is_other, without_interest, is_elsewhere, without_those_in, is_edge, is_one_shot, reported_once, is_picked, if_reported, after_report, is_side, is_kind, is_open_of, if_armed, armed_for};
+ghost use Rattle.lx_machine.specs.Interests.{after_report, armed_for, changed, if_armed, if_reported, in_place_of, is_edge, is_elsewhere, is_kind, is_named, is_one_shot, is_open_of, is_other, is_picked, is_side, reported_once, without_interest, without_those_in};
 
 use crate::buffer::{Bytes, NoMemory, Room};
 use crate::label::{LxSide, Pick};

@@ -1,7 +1,7 @@
 //! The futex queue (futex(2)).
 ghost use Rattle.std.specs.Prelude.{◌≡◌, slice_get, None, ◌≤◌, ◌+◌, ◌++◌, ◌∷◌, [], ◌<◌, length, find, map, OnOk, OnErr};
 ghost use Rattle.std.specs.List.{remove};
-ghost use Rattle.lx_machine.specs.Queue.{matches, is_queued, without_thread, first_of, without_first, moved_to, released, leaving, requeued, moved, all_bits};
+ghost use Rattle.lx_machine.specs.Queue.{after_requeue, all_bits, first_of, is_queued, leaving, matches, moved_to, released, waiters_moved, without_first, without_waiters_of};
 
 use crate::buffer::NoMemory;
 use crate::state::THREADS;
@@ -115,7 +115,7 @@ fn push_moved(waiters: &mut ArrayVec<LxWaiter, THREADS>, to: u64, moved: &[LxWai
 
 /// The waiters without those of a thread.
 fn retain_others(waiters: &mut ArrayVec<LxWaiter, THREADS>, tid: u32)
-    ensures { waiters.new.items ≡ without_thread tid waiters.old.items }
+    ensures { waiters.new.items ≡ without_waiters_of tid waiters.old.items }
 {
     waiters.retain(|waiter| waiter.tid != tid);
 }
@@ -153,7 +153,7 @@ impl Queue {
     /// The thread is queued no more.
     #[tactic(auto, using(crate::proofs::Waiters::fewer))]
     pub fn remove(&mut self, tid: u32)
-        ensures { self.new ≡ without_thread tid self.old }
+        ensures { self.new ≡ without_waiters_of tid self.old }
     {
         retain_others(&mut self.waiters, tid);
     }
@@ -172,7 +172,7 @@ impl Queue {
     /// The first waiters at one address move to another, and to the end of the queue (futex(2), FUTEX_REQUEUE).
     #[tactic(auto, using(crate::proofs::Waiters::lengths))]
     fn move_on(&mut self, from: u64, to: u64, most: u32) -> u32
-        ensures left { self.new ≡ moved from to most self.old }
+        ensures left { self.new ≡ waiters_moved from to most self.old }
         ensures count { result ≡ length (leaving from most all_bits self.old) }
     {
         let mut taken = ArrayVec::new();
@@ -190,7 +190,7 @@ impl Queue {
     /// Releases the first waiters at one address, and moves the first of those that are left there to another
     /// (futex(2), FUTEX_REQUEUE).
     pub fn requeue(&mut self, from: u64, to: u64, wakes: u32, moves: u32) -> Requeued
-        ensures left { self.new ≡ requeued from to wakes moves self.old }
+        ensures left { self.new ≡ after_requeue from to wakes moves self.old }
         ensures released { result.released ≡ length (leaving from wakes all_bits self.old) }
         ensures moved { result.moved ≡ length (leaving from moves all_bits (released from wakes all_bits self.old)) }
     {

@@ -1,12 +1,11 @@
 //! Signals, their information and their actions, in Linux numbers (signal(7), sigaction(2)).
 ghost use Rattle.std.specs.Prelude.{◌≡◌, ◌≤◌, ◌<◌, ◌^◌, ◌==◌, ◌++◌, ◌∷◌, [], length, OnErr, OnOk};
 ghost use Rattle.std.specs.List.{list_any, remove};
-ghost use Rattle.lx_machine.specs.Signals.{has_signal, is_of, is_before, may_take, has_unblocked, without_signal, first_info, without_all, real_time_count, set_of};
+ghost use Rattle.lx_machine.specs.Signal.{first_info, has_signal, has_unblocked, is_before, is_of, may_take, real_time_count, set_of, without_all, without_signal};
 
 use crate::buffer::NoMemory;
-use crate::label::PendingList;
 use arrayvec::ArrayVec;
-use linux_abi::LinuxSig;
+use linux_abi::{LinuxErrno, LinuxSig};
 use std::marker::Model;
 
 /// Where a signal comes from.
@@ -54,11 +53,25 @@ pub struct Taken {
     pub action: Action,
 }
 
-/// A signal that ended a wait, in the list where it was pending.
+/// What a call sends.
 #[derive(Clone, Copy)]
-pub struct Kept {
-    pub list: PendingList,
-    pub info: SigInfo,
+pub enum Sending {
+    /// Nothing: the call is refused.
+    Refused(LinuxErrno),
+    /// Nothing: it is only checked that a signal could be sent.
+    Checked,
+    /// A signal to the process.
+    ToProcess(SigInfo),
+    /// A signal to the thread in this slot.
+    ToThread(usize, SigInfo),
+}
+
+/// What follows of a delivered signal: the signal that ends the guest, if one does, and the signal whose pending ones end in
+/// all lists, if there is one.
+#[derive(Clone, Copy)]
+pub struct Fate {
+    pub ends: Option<LinuxSig>,
+    pub forgets: Option<LinuxSig>,
 }
 
 /// The most signals that are pending in one list: each standard signal once, and 64 real-time signals.
@@ -135,18 +148,6 @@ fn first_of(signal: LinuxSig, infos: &[SigInfo]) -> Option<SigInfo>
                 first_of(signal, rest)
             }
         }
-    }
-}
-
-/// How many of them are real-time signals.
-fn count_real_time(infos: &[SigInfo]) -> usize
-    requires { length infos.now < 2 ^ 63 }
-    ensures value { result ≡ real_time_count infos.now }
-    ensures most { result ≤ length infos.now }
-{
-    match infos {
-        [] => 0,
-        [info, rest @ ..] => usize::from(info.signal.is_real_time()) + count_real_time(rest),
     }
 }
 
@@ -258,7 +259,10 @@ impl Pending {
         ensures value { result ≡ real_time_count self.now }
         ensures most { result ≤ MOST_PENDING }
     {
-        count_real_time(&self.infos)
+        self.infos
+            .iter()
+            .filter(|info| info.signal.is_real_time())
+            .count()
     }
 
     /// The set of the pending signals, signal n as bit n - 1.

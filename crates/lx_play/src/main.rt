@@ -8,14 +8,11 @@
 ghost use Rattle.std.specs.Prelude.{IfOk};
 ghost use Rattle.elf_image.specs.Layout.{IsLaidOut};
 
-#[cfg(test)]
-mod tests;
-
 use elf_image::{Image, read_image};
 use lx_machine::threads::GuestEnd;
-use lx_player::machine::Machine;
-use lx_player::play::{RunEnd, play};
-use lx_player::schedule::Schedule;
+use lx_scheduler::machine::Machine;
+use lx_scheduler::play::{RunEnd, play};
+use lx_scheduler::schedule::Schedule;
 use outside::{DirShelf, Shelf, Sink, StdSink, put_all};
 use std::alloc::Global;
 use std::env;

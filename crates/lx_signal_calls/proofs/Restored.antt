@@ -2,7 +2,7 @@
 use Rattle.std.proofs.Common.{◌≡◌, ℕ, suc, ◌+◌, ◌-◌, ◌*◌, ◌<◌, ◌≤◌, List, [], ◌∷◌, ◌++◌, length, take, slice_set, sym, arith, ap, ◌∙◌, append_assoc, append-nil}
 use Rattle.std.proofs.lemmas.List.{take_more_set, take_all}
 use Rattle.places.specs.Places.{number_at}
-use Rattle.lx_signal_calls.specs.Frames.{numbers}
+use Rattle.lx_machine.specs.Sigreturn.{numbers}
 
 numbers_more : (bytes : List ℕ) (i : ℕ) → i < 31
     → numbers bytes (184 + 8 * i) (31 - i) ≡ number_at bytes (184 + 8 * i) 8 ∷ numbers bytes (184 + 8 * (i + 1)) (31 - (i + 1))

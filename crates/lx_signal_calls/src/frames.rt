@@ -3,21 +3,20 @@ ghost use Rattle.std.specs.Prelude.{◌≡◌, ◌≤◌, ◌<◌, ◌+◌, ◌*
 ghost use Rattle.places.specs.Places.{bytes_of};
 ghost use Rattle.arrayvec.specs.ArrayVec.{array_vec_len};
 ghost use Rattle.lx_memory.specs.Bytes.{with_bytes, IsMapped};
-ghost use Rattle.lx_signal_calls.specs.Frames as spec;
-ghost use Rattle.lx_signal_calls.specs.Frames.{words, frame_top, record_at, frame_at, Frames};
+ghost use Rattle.lx_machine.specs.SignalFrame.{Frames, context_words, doomed, fault_address, frame_at, frame_below, frame_bytes, frame_of, frame_top, framed, handler_mask, handler_regs, if_writable, in_handler, info_words, is_writable, origin_word, place_below, record_at, restorer, storable_place, with_arguments, words};
 
 use crate::masks::blockable;
 use crate::numbers::eight_bytes;
 use crate::stacks::{is_on, stack_flags};
 use a64_model::regs::Regs;
 use arrayvec::ArrayVec;
-use linux_abi::signals::{SA_NODEFER, SA_ONSTACK, SA_RESTORER, SA_SIGINFO};
+use linux_abi::signals::{has_restorer, is_not_deferred, wants_info, wants_stack};
 use lx_machine::refusal::LxRefusal;
 use lx_machine::signals::{Action, Origin, SigInfo, Taken};
 use lx_machine::threads::{AltStack, LxThread};
 use lx_memory::queries::is_allowed;
 use lx_memory::{Memory, Right};
-use lx_signals::taking::{given_back, has_flag};
+use lx_signals::taking::own_mask;
 
 /// The bytes of a frame, without its record.
 const FRAME: u64 = 4688;
@@ -36,7 +35,7 @@ fn frame_top(action: Action, sp: u64, stack: AltStack) -> u128
     ensures value { result ≡ frame_top action sp stack }
     ensures bound { result < 2 ^ 65 }
 {
-    if has_flag(SA_ONSTACK, action.flags) && stack.enabled && !is_on(sp, stack) {
+    if wants_stack(action.flags) && stack.enabled && !is_on(sp, stack) {
         u128::from(stack.at) + u128::from(stack.size)
     } else {
         u128::from(sp)
@@ -45,7 +44,7 @@ fn frame_top(action: Action, sp: u64, stack: AltStack) -> u128
 
 /// The word of siginfo that tells where a signal comes from.
 fn origin_word(origin: Origin) -> u64
-    ensures { result ≡ spec.origin_word origin }
+    ensures { result ≡ origin_word origin }
 {
     match origin {
         Origin::Sender { pid, uid } => u64::from(pid) + u64::from(uid) * (1 << 32),
@@ -55,7 +54,7 @@ fn origin_word(origin: Origin) -> u64
 
 /// The address of a fault, and 0 for a signal that was sent.
 fn fault_address(origin: Origin) -> u64
-    ensures { result ≡ spec.fault_address origin }
+    ensures { result ≡ fault_address origin }
 {
     match origin {
         Origin::Sender { .. } => 0,
@@ -65,7 +64,7 @@ fn fault_address(origin: Origin) -> u64
 
 /// siginfo.
 fn info_words(info: SigInfo) -> [u64; 16]
-    ensures { result ≡ spec.info_words info }
+    ensures { result ≡ info_words info }
 {
     [
         u64::from(info.signal.number()),
@@ -89,7 +88,7 @@ fn info_words(info: SigInfo) -> [u64; 16]
 
 /// ucontext up to the registers.
 fn context_words(sp: u64, stack: AltStack, mask: u64, info: SigInfo) -> [u64; 23]
-    ensures { result ≡ spec.context_words sp stack mask info }
+    ensures { result ≡ context_words sp stack mask info }
 {
     [
         0,
@@ -128,7 +127,7 @@ fn push_word(frame: &mut ArrayVec<u8, FRAME_SIZE>, n: u64)
 }
 
 /// Appends numbers of 8 bytes each.
-#[tactic(auto, unfolding(crate::specs::Frames::words))]
+#[tactic(auto, unfolding(lx_machine::specs::SignalFrame::words))]
 fn push_words(frame: &mut ArrayVec<u8, FRAME_SIZE>, numbers: &[u64])
     requires { array_vec_len frame.old + 8 * length numbers.now ≤ 4704 }
     ensures items { frame.new.items ≡ frame.old.items ++ words numbers.now }
@@ -145,7 +144,7 @@ fn push_words(frame: &mut ArrayVec<u8, FRAME_SIZE>, numbers: &[u64])
 
 /// The frame of a signal and its record: the registers and the alternative stack as they are, and the mask that is stored.
 fn frame_of(regs: &Regs, stack: AltStack, mask: u64, info: SigInfo) -> ArrayVec<u8, FRAME_SIZE>
-    ensures items { result.items ≡ spec.frame_bytes regs.now stack mask info }
+    ensures items { result.items ≡ frame_bytes regs.now stack mask info }
     ensures len { array_vec_len result ≡ 4704 }
 {
     let mut frame = ArrayVec::new();
@@ -164,7 +163,7 @@ fn frame_of(regs: &Regs, stack: AltStack, mask: u64, info: SigInfo) -> ArrayVec<
 /// The address of the frame below this, if the frame and its record lie in the address space.
 fn place_below(top: u128) -> Option<u64>
     requires { top < 2 ^ 65 }
-    ensures place { result ≡ spec.place_below top }
+    ensures place { result ≡ place_below top }
     ensures bound { IfSome result (λ at. at + 4704 ≤ 2 ^ 64) }
 {
     if top < FRAME_SIZE as u128 {
@@ -178,9 +177,9 @@ fn place_below(top: u128) -> Option<u64>
 }
 
 /// Whether each byte of the frame at this address, and of its record, may be written.
-#[tactic(auto, unfolding(crate::specs::Frames::is_writable))]
+#[tactic(auto, unfolding(lx_machine::specs::SignalFrame::is_writable))]
 fn is_writable(memory: &Memory, at: u64) -> bool
-    ensures value { result ≡ spec.is_writable memory.now at }
+    ensures value { result ≡ is_writable memory.now at }
     ensures mapped { result ≡ true → IsMapped memory.now at 4704 }
 {
     is_allowed(memory, Right::Write, at, FRAME_SIZE as u64)
@@ -189,7 +188,7 @@ fn is_writable(memory: &Memory, at: u64) -> bool
 /// The address, if the frame there may be written.
 fn if_writable(memory: &Memory, at: u64) -> Option<u64>
     requires { at + 4704 ≤ 2 ^ 64 }
-    ensures place { result ≡ spec.if_writable memory.now at }
+    ensures place { result ≡ if_writable memory.now at }
     ensures mapped { IfSome result (λ at. IsMapped memory.now at 4704) }
     ensures bound { IfSome result (λ at. at + 4704 ≤ 2 ^ 64) }
 {
@@ -203,7 +202,7 @@ fn if_writable(memory: &Memory, at: u64) -> Option<u64>
 /// The address of the frame below this, if each byte of the frame and its record may be written.
 fn storable_place(memory: &Memory, top: u128) -> Option<u64>
     requires { top < 2 ^ 65 }
-    ensures place { result ≡ spec.storable_place memory.now top }
+    ensures place { result ≡ storable_place memory.now top }
     ensures mapped { IfSome result (λ at. IsMapped memory.now at 4704) }
     ensures bound { IfSome result (λ at. at + 4704 ≤ 2 ^ 64) }
 {
@@ -216,10 +215,10 @@ fn storable_place(memory: &Memory, top: u128) -> Option<u64>
 /// The registers of the handler's arguments: the signal, and where the action asks for them the addresses of siginfo and ucontext.
 fn set_arguments(action: Action, number: u8, at: u64, x: &mut [u64; 31])
     requires { at + 4704 ≤ 2 ^ 64 }
-    ensures { x.new ≡ spec.with_arguments action number at x.old }
+    ensures { x.new ≡ with_arguments action number at x.old }
 {
     x[0] = u64::from(number);
-    if has_flag(SA_SIGINFO, action.flags) {
+    if wants_info(action.flags) {
         x[1] = at;
         x[2] = at + CONTEXT;
     }
@@ -227,9 +226,9 @@ fn set_arguments(action: Action, number: u8, at: u64, x: &mut [u64; 31])
 
 /// Where the handler returns to.
 fn restorer(action: Action) -> u64
-    ensures { result ≡ spec.restorer action }
+    ensures { result ≡ restorer action }
 {
-    if has_flag(SA_RESTORER, action.flags) {
+    if has_restorer(action.flags) {
         action.restorer
     } else {
         RETURN_AT
@@ -239,7 +238,7 @@ fn restorer(action: Action) -> u64
 /// The registers in the handler.
 fn set_handler_regs(action: Action, number: u8, at: u64, regs: &mut Regs)
     requires { at + 4704 ≤ 2 ^ 64 }
-    ensures { regs.new ≡ spec.handler_regs action number at regs.old }
+    ensures { regs.new ≡ handler_regs action number at regs.old }
 {
     set_arguments(action, number, at, &mut regs.x);
     regs.x[29] = at + FRAME;
@@ -250,9 +249,9 @@ fn set_handler_regs(action: Action, number: u8, at: u64, regs: &mut Regs)
 
 /// The mask in the handler.
 fn handler_mask(taken: Taken, mask: u64) -> u64
-    ensures { result ≡ spec.handler_mask taken mask }
+    ensures { result ≡ handler_mask taken mask }
 {
-    let signal = if has_flag(SA_NODEFER, taken.action.flags) {
+    let signal = if is_not_deferred(taken.action.flags) {
         0
     } else {
         taken.info.signal.bit()
@@ -263,7 +262,7 @@ fn handler_mask(taken: Taken, mask: u64) -> u64
 /// The thread goes into its handler, with the frame at this address.
 fn enter_handler(taken: Taken, at: u64, thread: &mut LxThread)
     requires { at + 4704 ≤ 2 ^ 64 }
-    ensures { thread.new ≡ spec.in_handler taken at thread.old }
+    ensures { thread.new ≡ in_handler taken at thread.old }
 {
     set_handler_regs(
         taken.action,
@@ -278,7 +277,7 @@ fn enter_handler(taken: Taken, at: u64, thread: &mut LxThread)
 
 /// The frame can't be stored, which is the thread's doom.
 fn doom(thread: &mut LxThread)
-    ensures { thread.new ≡ spec.doomed thread.old }
+    ensures { thread.new ≡ doomed thread.old }
 {
     thread.taken = None;
     thread.is_doomed = true;
@@ -287,9 +286,9 @@ fn doom(thread: &mut LxThread)
 /// The frame of the taken signal is stored at this address.
 fn store_frame(memory: &mut Memory, at: u64, thread: &LxThread, taken: Taken)
     requires { IsMapped memory.old at 4704 }
-    ensures { memory.new ≡ with_bytes memory.old at (spec.frame_of taken thread.now) }
+    ensures { memory.new ≡ with_bytes memory.old at (frame_of taken thread.now) }
 {
-    let mask = given_back(thread.mask, thread.saved_mask);
+    let mask = own_mask(thread.mask, thread.saved_mask);
     let frame = frame_of(&thread.regs, thread.alt_stack, mask, taken.info);
     memory.store(at, frame.as_slice());
 }
@@ -297,9 +296,9 @@ fn store_frame(memory: &mut Memory, at: u64, thread: &LxThread, taken: Taken)
 /// The frame of the taken signal, below this.
 fn frame_below(top: u128, memory: &mut Memory, thread: &mut LxThread, taken: Taken) -> Option<u64>
     requires { top < 2 ^ 65 }
-    ensures pages { memory.new ≡ (spec.frame_below top memory.old thread.old taken).pages }
-    ensures thread { thread.new ≡ (spec.frame_below top memory.old thread.old taken).thread }
-    ensures stored { result ≡ (spec.frame_below top memory.old thread.old taken).stored }
+    ensures pages { memory.new ≡ (frame_below top memory.old thread.old taken).pages }
+    ensures thread { thread.new ≡ (frame_below top memory.old thread.old taken).thread }
+    ensures stored { result ≡ (frame_below top memory.old thread.old taken).stored }
 {
     match storable_place(memory, top) {
         Some(at) => {
@@ -318,7 +317,7 @@ fn frame_below(top: u128, memory: &mut Memory, thread: &mut LxThread, taken: Tak
 /// frame may be written, the thread is doomed. The answer is the address of the stored frame, whose `FRAME_SIZE` bytes end the
 /// marks of other threads.
 pub fn store_taken(memory: &mut Memory, thread: &mut LxThread) -> Result<Option<u64>, LxRefusal>
-    ensures { Frames (spec.framed memory.old thread.old) memory.old memory.new thread.old thread.new result }
+    ensures { Frames (framed memory.old thread.old) memory.old memory.new thread.old thread.new result }
 {
     let Some(taken) = thread.taken else {
         return Err(LxRefusal::NoStep);

@@ -8,5 +8,3 @@ pub mod masks;
 mod numbers;
 pub mod sigreturn;
 pub mod stacks;
-#[cfg(test)]
-mod tests;

@@ -1,9 +1,10 @@
 //! Little-endian numbers in the bytes that the signal calls fetch and store, and what these calls share.
-ghost use Rattle.std.specs.Prelude.{◌≡◌, ◌≤◌, ◌++◌, ◌∷◌, [], drop, slice_index, OnOk, OnErr, IfOk};
+ghost use Rattle.std.specs.Prelude.{◌≡◌, ◌≤◌, ◌++◌, ◌∷◌, [], drop, length, slice_index, OnOk, OnErr, IfOk};
 ghost use Rattle.places.specs.Places.{bytes_of, number_at};
 ghost use Rattle.byteorder.specs.Endian.{little_number};
 ghost use Rattle.lx_machine.specs.Pieces.{piece};
-ghost use Rattle.lx_signal_calls.specs.Masks.{optional_piece, fetch_then, answered_storing};
+ghost use Rattle.lx_machine.specs.Calls.{answered_with};
+ghost use Rattle.lx_machine.specs.SignalCalls.{fetch_then, optional_piece};
 
 use byteorder::{ByteOrder, LittleEndian};
 use lx_machine::buffer::{Bytes, NoMemory};
@@ -83,9 +84,10 @@ pub(crate) fn append_number(bytes: &mut Bytes, n: u64) -> Result<(), NoMemory>
     bytes.append(&eight_bytes(n))
 }
 
-/// A piece at an address that is optional: 0 means none.
+/// A piece at an address that is optional: 0 means none, and takes no memory.
 pub(crate) fn optional_piece(alloc: Global, at: u64, len: u64) -> Result<Pieces, NoMemory>
-    ensures { IfOk result (λ pieces. pieces ≡ optional_piece at len) }
+    ensures value { IfOk result (λ pieces. pieces ≡ optional_piece at len) }
+    ensures taken { OnErr result (1 ≤ length (optional_piece at len)) }
 {
     if at == 0 {
         Ok(Pieces::none(alloc))
@@ -104,20 +106,16 @@ pub(crate) fn fetch_then(next: Stage, pieces: &Pieces) -> Stage
     }
 }
 
-/// The call answers 0 and stores these bytes at an address that is optional. Where memory is wanting, nothing changes.
+/// The call answers 0 and stores these bytes at this address. Where memory is wanting, nothing changes.
 pub(crate) fn answer_storing(
     alloc: Global,
     call: &mut LxCall,
     at: u64,
     bytes: Bytes,
 ) -> Result<(), NoMemory>
-    ensures ok { OnOk result (call.new ≡ answered_storing call.old at bytes) }
+    ensures ok { OnOk result (call.new ≡ answered_with call.old 0 (piece at (length bytes) ∷ []) bytes) }
     ensures err { OnErr result (call.new ≡ call.old) }
 {
-    if at == 0 {
-        call.answer(0);
-        return Ok(());
-    }
     let len = bytes.as_slice().len() as u64;
     let pieces = Pieces::one(alloc, at, len)?;
     call.answer_with(0, pieces, bytes);

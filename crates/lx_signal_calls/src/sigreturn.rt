@@ -1,7 +1,6 @@
 //! rt_sigreturn(2).
-ghost use Rattle.std.specs.Prelude.{◌≡◌, ◌≤◌, ◌+◌, ◌-◌, ◌*◌, ◌++◌, take, IfOk};
-ghost use Rattle.lx_signal_calls.specs.Frames as spec;
-ghost use Rattle.lx_signal_calls.specs.Frames.{numbers};
+ghost use Rattle.std.specs.Prelude.{◌≡◌, ◌≤◌, ◌+◌, ◌-◌, ◌*◌, ◌++◌, length, take, IfOk, OnErr};
+ghost use Rattle.lx_machine.specs.Sigreturn.{numbers, restored, sigreturn_call, sigreturn_mask, sigreturn_pieces, sigreturn_regs, sigreturn_stage};
 
 use crate::masks::blockable;
 use crate::numbers::number;
@@ -28,9 +27,10 @@ const PC: usize = 440;
 const PSTATE: usize = 448;
 
 /// What a thread with this stack pointer fetches: the first bytes of ucontext, unless sp is not aligned or they begin outside the
-/// address space.
+/// address space. Such a piece takes memory.
 pub fn sigreturn_pieces(alloc: Global, sp: u64) -> Result<Pieces, NoMemory>
-    ensures { IfOk result (λ pieces. pieces ≡ spec.sigreturn_pieces sp) }
+    ensures taken { OnErr result (1 ≤ length (sigreturn_pieces sp)) }
+    ensures value { IfOk result (λ pieces. pieces ≡ sigreturn_pieces sp) }
 {
     match sp.checked_add(CONTEXT) {
         Some(at) if sp % 16 == 0 => Pieces::one(alloc, at, FETCHED),
@@ -40,7 +40,7 @@ pub fn sigreturn_pieces(alloc: Global, sp: u64) -> Result<Pieces, NoMemory>
 
 /// The piece is fetched, and then the call has its effect; where nothing could be fetched, the guest is killed.
 pub fn sigreturn_stage(call: &LxCall) -> Stage
-    ensures { result ≡ spec.sigreturn_stage call.now }
+    ensures { result ≡ sigreturn_stage call.now }
 {
     match call.pieces.as_slice() {
         [piece, ..] => Stage::Fetch(*piece),
@@ -68,7 +68,7 @@ fn read_from(i: usize, bytes: &[u8], x: &mut [u64; 31])
 
 /// The registers in these bytes.
 fn read_regs(regs: &mut Regs, bytes: &[u8])
-    ensures { regs.new ≡ spec.restored regs.old bytes.now }
+    ensures { regs.new ≡ restored regs.old bytes.now }
 {
     read_from(0, bytes, &mut regs.x);
     regs.sp = number(bytes, SP);
@@ -78,9 +78,9 @@ fn read_regs(regs: &mut Regs, bytes: &[u8])
 
 /// The effect of rt_sigreturn(2) on a thread's registers and mask: they are those of the frame, and the result is its x0.
 pub fn sigreturn(regs: &mut Regs, mask: &mut u64, call: &mut LxCall)
-    ensures regs { regs.new ≡ spec.sigreturn_regs regs.old call.old }
-    ensures mask { mask.new ≡ spec.sigreturn_mask call.old }
-    ensures call { call.new ≡ spec.sigreturn_call call.old }
+    ensures regs { regs.new ≡ sigreturn_regs regs.old call.old }
+    ensures mask { mask.new ≡ sigreturn_mask call.old }
+    ensures call { call.new ≡ sigreturn_call call.old }
 {
     let bytes = call.bytes.as_slice();
     read_regs(regs, bytes);

@@ -1,7 +1,8 @@
 //! Alternative signal stacks (sigaltstack(2)).
-ghost use Rattle.std.specs.Prelude.{◌≡◌, ◌≤◌, OnOk, OnErr, IfOk};
+ghost use Rattle.std.specs.Prelude.{◌≡◌, ◌≤◌, length, OnOk, OnErr, IfOk};
 ghost use Rattle.lx_machine.specs.Calls.{first_refusal};
-ghost use Rattle.lx_signal_calls.specs.Stacks as spec;
+ghost use Rattle.lx_machine.specs.SignalCalls.{answered_storing};
+ghost use Rattle.lx_machine.specs.Sigaltstack.{is_on, new_flags, new_stack, sigaltstack_call, sigaltstack_pieces, sigaltstack_stack, sigaltstack_stage, stack_bytes, stack_flags, stack_refusal, stack_refusals, stack_unless};
 
 use crate::numbers::{
     answer_storing, append_number, fetch_then, number, optional_piece, small_number,
@@ -24,7 +25,7 @@ const STACK: u64 = 24;
 
 /// Whether a thread with this stack pointer is on its alternative stack.
 pub fn is_on(sp: u64, stack: AltStack) -> bool
-    ensures { result ≡ spec.is_on sp stack }
+    ensures { result ≡ is_on sp stack }
 {
     stack.enabled
         && stack.at < sp
@@ -33,7 +34,7 @@ pub fn is_on(sp: u64, stack: AltStack) -> bool
 
 /// SS_ONSTACK, SS_DISABLE, or neither.
 pub fn stack_flags(sp: u64, stack: AltStack) -> u32
-    ensures value { result ≡ spec.stack_flags sp stack }
+    ensures value { result ≡ stack_flags sp stack }
     ensures most { result ≤ 2 }
 {
     if !stack.enabled {
@@ -47,7 +48,7 @@ pub fn stack_flags(sp: u64, stack: AltStack) -> u32
 
 /// The bytes of a stack_t.
 fn stack_bytes(alloc: Global, sp: u64, stack: AltStack) -> Result<Bytes, NoMemory>
-    ensures { IfOk result (λ bytes. bytes ≡ spec.stack_bytes sp stack) }
+    ensures { IfOk result (λ bytes. bytes ≡ stack_bytes sp stack) }
 {
     let mut bytes = Bytes::empty(alloc);
     append_number(&mut bytes, stack.at)?;
@@ -56,30 +57,31 @@ fn stack_bytes(alloc: Global, sp: u64, stack: AltStack) -> Result<Bytes, NoMemor
     Ok(bytes)
 }
 
-/// sigaltstack(2) fetches the new stack, where one is given.
+/// sigaltstack(2) fetches the new stack, where one is given, which takes memory.
 pub fn sigaltstack_pieces(alloc: Global, call: &LxCall) -> Result<Pieces, NoMemory>
-    ensures { IfOk result (λ pieces. pieces ≡ spec.sigaltstack_pieces call.now) }
+    ensures taken { OnErr result (1 ≤ length (sigaltstack_pieces call.now)) }
+    ensures value { IfOk result (λ pieces. pieces ≡ sigaltstack_pieces call.now) }
 {
     optional_piece(alloc, call.arguments[0], STACK)
 }
 
 /// sigaltstack(2) fetches the new stack, and then has its effect.
 pub fn sigaltstack_stage(call: &LxCall) -> Stage
-    ensures { result ≡ spec.sigaltstack_stage call.now }
+    ensures { result ≡ sigaltstack_stage call.now }
 {
     fetch_then(Stage::Effect, &call.pieces)
 }
 
 /// The flags of a stack_t.
 fn new_flags(bytes: &[u8]) -> u32
-    ensures { result ≡ spec.new_flags bytes.now }
+    ensures { result ≡ new_flags bytes.now }
 {
     small_number(bytes, 8)
 }
 
 /// What a stack_t says.
 fn new_stack(bytes: &[u8]) -> AltStack
-    ensures { result ≡ spec.new_stack bytes.now }
+    ensures { result ≡ new_stack bytes.now }
 {
     if new_flags(bytes) == DISABLE {
         AltStack {
@@ -98,7 +100,7 @@ fn new_stack(bytes: &[u8]) -> AltStack
 
 /// What refuses a new stack.
 fn new_refusal(sp: u64, stack: AltStack, bytes: &[u8]) -> Option<LinuxErrno>
-    ensures { result ≡ first_refusal (spec.stack_refusals sp stack bytes.now) }
+    ensures { result ≡ first_refusal (stack_refusals sp stack bytes.now) }
 {
     if new_flags(bytes) > DISABLE {
         return Some(LinuxErrno::EINVAL);
@@ -114,7 +116,7 @@ fn new_refusal(sp: u64, stack: AltStack, bytes: &[u8]) -> Option<LinuxErrno>
 
 /// What refuses the call, which is so only where a new stack is given.
 fn stack_refusal(sp: u64, stack: AltStack, call: &LxCall) -> Option<LinuxErrno>
-    ensures { result ≡ spec.stack_refusal sp stack call.now }
+    ensures { result ≡ stack_refusal sp stack call.now }
 {
     if call.arguments[0] == 0 {
         None
@@ -125,7 +127,7 @@ fn stack_refusal(sp: u64, stack: AltStack, call: &LxCall) -> Option<LinuxErrno>
 
 /// The stack after the call, unless it is refused.
 fn stack_after(stack: AltStack, call: &LxCall) -> AltStack
-    ensures { result ≡ spec.stack_unless None stack call.now }
+    ensures { result ≡ stack_unless None stack call.now }
 {
     if call.arguments[0] == 0 {
         stack
@@ -134,25 +136,46 @@ fn stack_after(stack: AltStack, call: &LxCall) -> AltStack
     }
 }
 
+/// The call answers 0, and stores the stack at an address that is optional, which takes memory. Where it is wanting, nothing
+/// changes.
+fn answer_stack(
+    alloc: Global,
+    call: &mut LxCall,
+    at: u64,
+    sp: u64,
+    stack: AltStack,
+) -> Result<(), NoMemory>
+    ensures ok { OnOk result (call.new ≡ answered_storing call.old at (stack_bytes sp stack)) }
+    ensures err { OnErr result (call.new ≡ call.old) }
+    ensures stores { OnErr result (1 ≤ length (answered_storing call.old at (stack_bytes sp stack)).pieces) }
+{
+    if at == 0 {
+        call.answer(0);
+        return Ok(());
+    }
+    let bytes = stack_bytes(alloc, sp, stack)?;
+    answer_storing(alloc, call, at, bytes)
+}
+
 /// The effect of sigaltstack(2) on the alternative stack of a thread with this stack pointer: it changes, and the one before is
-/// stored; or the call is refused. Where memory is wanting, nothing changes.
+/// stored; or the call is refused. `NoMemory`: memory is wanting for what is stored; then nothing changes.
 pub fn sigaltstack(
     alloc: Global,
     sp: u64,
     stack: &mut AltStack,
     call: &mut LxCall,
 ) -> Result<(), NoMemory>
-    ensures stack { OnOk result (stack.new ≡ spec.sigaltstack_stack sp stack.old call.old) }
-    ensures call { OnOk result (call.new ≡ spec.sigaltstack_call sp stack.old call.old) }
+    ensures stack { OnOk result (stack.new ≡ sigaltstack_stack sp stack.old call.old) }
+    ensures call { OnOk result (call.new ≡ sigaltstack_call sp stack.old call.old) }
     ensures stack_err { OnErr result (stack.new ≡ stack.old) }
     ensures call_err { OnErr result (call.new ≡ call.old) }
+    ensures stores { OnErr result (1 ≤ length (sigaltstack_call sp stack.old call.old).pieces) }
 {
     match stack_refusal(sp, *stack, call) {
         Some(e) => call.refuse(e),
         None => {
             let after = stack_after(*stack, call);
-            let bytes = stack_bytes(alloc, sp, *stack)?;
-            answer_storing(alloc, call, call.arguments[1], bytes)?;
+            answer_stack(alloc, call, call.arguments[1], sp, *stack)?;
             *stack = after;
         }
     }

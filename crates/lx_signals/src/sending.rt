@@ -1,16 +1,17 @@
 //! Signals that are sent (kill(2), tkill(2)), and signals that are pending no more.
-ghost use Rattle.std.specs.Prelude.{◌≡◌, ◌<◌, ◌≤◌, ◌*◌, ◌^◌, ◌++◌, take, drop, length, OnOk, OnErr};
+ghost use Rattle.std.specs.Prelude.{◌≡◌, ◌<◌, ◌≤◌, ◌*◌, ◌^◌, ◌++◌, take, drop, length, map, sum_by, false, OnOk, OnErr};
 ghost use Rattle.lx_machine.specs.Calls.{first_refusal};
-ghost use Rattle.lx_signals.specs.Sending as spec;
-ghost use Rattle.lx_signals.specs.Sending.{sent, queued_at, queued_by, queued, forgotten_at, forgotten, has_live, sent_at, sent_to};
+ghost use Rattle.lx_machine.specs.Lists.{at_place};
+ghost use Rattle.lx_machine.specs.Kill.{answered_by, has_room, has_room_at, is_no_signal, is_no_tid, is_over_limit, is_own_process, kill_refusals, kill_sending, pending_after, process_sending, tgkill_refusals, tgkill_sending, thread_sending, threads_after, tkill_refusals, tkill_sending};
+ghost use Rattle.lx_machine.specs.Signal.{can_be_sent, forgotten, forgotten_at, is_live_as, is_not_kept, live_slot, queued_signals, queued_signals_at, sent, sent_at, sent_by, sent_to};
 
 use crate::taking::{action_of, is_ignored};
 use linux_abi::signals::{SI_TKILL, SI_USER};
 use linux_abi::{LinuxErrno, LinuxSig};
 use lx_machine::buffer::NoMemory;
 use lx_machine::calls::{LxCall, refused_if};
-use lx_machine::signals::{Action, Origin, Pending, SigInfo};
-use lx_machine::state::THREADS;
+use lx_machine::signals::{Action, Origin, Pending, Sending, SigInfo};
+use lx_machine::state::{LinuxState, THREADS};
 use lx_machine::threads::{Life, LxThread};
 
 /// The process, and its user.
@@ -22,25 +23,43 @@ const LAST_SIGNAL: u32 = 64;
 /// The most queued real-time signals.
 const MOST_QUEUED: usize = 64;
 
-/// What a call sends.
-#[derive(Clone, Copy)]
-pub enum Sending {
-    /// Nothing: the call is refused.
-    Refused(LinuxErrno),
-    /// Nothing: it is only checked that a signal could be sent.
-    Checked,
-    /// A signal to the process.
-    ToProcess(SigInfo),
-    /// A signal to the live thread with this tid.
-    ToThread(u32, SigInfo),
+/// What the process sends to itself, with this code (sigaction(2), siginfo_t).
+pub fn sent_by(code: i32, signal: LinuxSig) -> SigInfo
+    ensures { result ≡ sent_by code signal }
+{
+    SigInfo {
+        signal,
+        code,
+        origin: Origin::Sender {
+            pid: OWN_ID,
+            uid: OWN_ID,
+        },
+    }
 }
 
-/// A signal is sent to a list: it isn't kept where it is ignored, or pending already and a standard one.
-pub fn send(ignored: bool, info: SigInfo, pending: &mut Pending) -> Result<(), NoMemory>
-    ensures ok { OnOk result (pending.new ≡ sent ignored info pending.old) }
-    ensures err { OnErr result (pending.new ≡ pending.old) }
+/// Whether a signal that is sent to a list is not kept: it is ignored, or a standard one that is pending already.
+fn is_not_kept(actions: &[Action; 64], info: SigInfo, pending: &Pending) -> bool
+    ensures { result ≡ is_not_kept actions.now info pending.now }
 {
-    if ignored || (!info.signal.is_real_time() && pending.has(info.signal)) {
+    is_ignored(action_of(actions, info.signal), info.signal)
+        || (!info.signal.is_real_time() && pending.has(info.signal))
+}
+
+/// Whether a list has room for a signal that is sent to it, if it is kept.
+pub fn can_be_sent(actions: &[Action; 64], info: SigInfo, pending: &Pending) -> bool
+    ensures { result ≡ can_be_sent actions.now info pending.now }
+{
+    is_not_kept(actions, info, pending) || !pending.is_full()
+}
+
+/// A signal is sent to a list (signal(7)): it isn't kept where it is ignored, or pending already and a standard one; else it stands
+/// behind the others. `NoMemory`: the list has no room for it; then nothing changes.
+pub fn send(actions: &[Action; 64], info: SigInfo, pending: &mut Pending) -> Result<(), NoMemory>
+    ensures ok { OnOk result (pending.new ≡ sent actions.now info pending.old) }
+    ensures err { OnErr result (pending.new ≡ pending.old) }
+    ensures full { OnErr result (can_be_sent actions.now info pending.old ≡ false) }
+{
+    if is_not_kept(actions, info, pending) {
         return Ok(());
     }
     pending.push(info)
@@ -48,7 +67,7 @@ pub fn send(ignored: bool, info: SigInfo, pending: &mut Pending) -> Result<(), N
 
 /// How many real-time signals are pending for the thread in a place.
 fn queued_at(place: &Option<LxThread>) -> usize
-    ensures value { result ≡ queued_at place.now }
+    ensures value { result ≡ queued_signals_at place.now }
     ensures most { result ≤ 95 }
 {
     match place {
@@ -60,7 +79,7 @@ fn queued_at(place: &Option<LxThread>) -> usize
 /// How many real-time signals are pending for threads.
 fn queued_by(places: &[Option<LxThread>]) -> usize
     requires { length places.now ≤ 32 }
-    ensures value { result ≡ queued_by places.now }
+    ensures value { result ≡ sum_by queued_signals_at places.now }
     ensures most { result ≤ 95 * length places.now }
 {
     match places {
@@ -71,7 +90,7 @@ fn queued_by(places: &[Option<LxThread>]) -> usize
 
 /// How many real-time signals are pending for all threads and the process.
 pub fn queued(threads: &[Option<LxThread>; THREADS], shared: &Pending) -> usize
-    ensures { result ≡ queued threads.now shared.now }
+    ensures { result ≡ queued_signals threads.now shared.now }
 {
     queued_by(threads) + shared.real_time_count()
 }
@@ -88,7 +107,7 @@ fn forget_at(signal: LinuxSig, place: &mut Option<LxThread>)
 /// The signal is pending no more for any thread in the places from `at` on.
 fn forget_from(at: usize, signal: LinuxSig, threads: &mut [Option<LxThread>; THREADS])
     requires { at ≤ 32 }
-    ensures { threads.new ≡ take at threads.old ++ forgotten signal (drop at threads.old) }
+    ensures { threads.new ≡ take at threads.old ++ map (forgotten_at signal) (drop at threads.old) }
 {
     if at < THREADS {
         forget_at(signal, &mut threads[at]);
@@ -96,16 +115,19 @@ fn forget_from(at: usize, signal: LinuxSig, threads: &mut [Option<LxThread>; THR
     }
 }
 
-/// The signal is pending no more for any thread.
-pub fn forget(signal: LinuxSig, threads: &mut [Option<LxThread>; THREADS])
-    ensures { threads.new ≡ forgotten signal threads.old }
+/// The signal, if one is given, is pending nowhere any more: neither for the process nor for any thread.
+pub fn forget(signal: Option<LinuxSig>, state: &mut LinuxState)
+    ensures { state.new ≡ forgotten signal state.old }
 {
-    forget_from(0, signal, threads);
+    if let Some(signal) = signal {
+        state.pending.remove_all(signal);
+        forget_from(0, signal, &mut state.threads);
+    }
 }
 
 /// Whether a live thread with this tid is in the place.
 fn is_live_as(tid: u32, place: &Option<LxThread>) -> bool
-    ensures { result ≡ spec.is_live_as tid place.now }
+    ensures { result ≡ is_live_as tid place.now }
 {
     match place {
         Some(thread) => thread.tid == tid && matches!(thread.life, Life::Live),
@@ -113,86 +135,72 @@ fn is_live_as(tid: u32, place: &Option<LxThread>) -> bool
     }
 }
 
-/// Whether a thread with this tid is live.
-pub fn has_live(tid: u32, places: &[Option<LxThread>]) -> bool
-    ensures { result ≡ has_live tid places.now }
+/// The slot of the live thread with this tid, if there is one.
+#[tactic(auto, unfolding(lx_machine::specs::Signal::live_slot))]
+pub fn live_slot(tid: u32, threads: &[Option<LxThread>; THREADS]) -> Option<usize>
+    ensures { result ≡ live_slot tid threads.now }
 {
-    match places {
-        [] => false,
-        [place, rest @ ..] => is_live_as(tid, place) || has_live(tid, rest),
-    }
+    threads.iter().position(|place| is_live_as(tid, place))
 }
 
-/// A signal is sent to the thread in a place.
-fn send_at(ignored: bool, info: SigInfo, place: &mut Option<LxThread>) -> Result<(), NoMemory>
-    ensures ok { OnOk result (place.new ≡ sent_at ignored info place.old) }
+/// A signal is sent to the thread in a place. `NoMemory`: its list has no room for it; then nothing changes.
+fn send_at(
+    actions: &[Action; 64],
+    info: SigInfo,
+    place: &mut Option<LxThread>,
+) -> Result<(), NoMemory>
+    ensures ok { OnOk result (place.new ≡ sent_at actions.now info place.old) }
     ensures err { OnErr result (place.new ≡ place.old) }
+    ensures full { OnErr result (has_room_at actions.now info place.old ≡ false) }
 {
     match place {
-        Some(thread) => send(ignored, info, &mut thread.pending),
+        Some(thread) => send(actions, info, &mut thread.pending),
         None => Ok(()),
     }
 }
 
-/// A signal is sent to the live thread with this tid in the places from `at` on. Where memory is wanting, nothing changes.
-#[tactic(auto, using(crate::proofs::Sent::sent_here))]
-fn send_from(
-    at: usize,
-    tid: u32,
-    ignored: bool,
+/// A signal is sent to the thread in this slot. `NoMemory`: its list has no room for it; then nothing changes.
+#[tactic(auto, using(std::proofs::lemmas::List::set_past, crate::proofs::Sent::placed))]
+fn send_to(
+    slot: usize,
+    actions: &[Action; 64],
     info: SigInfo,
     threads: &mut [Option<LxThread>; THREADS],
 ) -> Result<(), NoMemory>
-    requires { at ≤ 32 }
-    ensures ok { OnOk result (threads.new ≡ take at threads.old ++ sent_to tid ignored info (drop at threads.old)) }
+    ensures ok { OnOk result (threads.new ≡ sent_to slot actions.now info threads.old) }
     ensures err { OnErr result (threads.new ≡ threads.old) }
+    ensures full { OnErr result (has_room_at actions.now info (at_place threads.old slot) ≡ false) }
 {
-    if at >= THREADS {
+    if slot >= THREADS {
         return Ok(());
     }
-    if is_live_as(tid, &threads[at]) {
-        return send_at(ignored, info, &mut threads[at]);
-    }
-    send_from(at + 1, tid, ignored, info, threads)
-}
-
-/// A signal is sent to the live thread with this tid. Where memory is wanting, nothing changes.
-fn send_to(
-    tid: u32,
-    ignored: bool,
-    info: SigInfo,
-    threads: &mut [Option<LxThread>; THREADS],
-) -> Result<(), NoMemory>
-    ensures ok { OnOk result (threads.new ≡ sent_to tid ignored info threads.old) }
-    ensures err { OnErr result (threads.new ≡ threads.old) }
-{
-    send_from(0, tid, ignored, info, threads)
+    send_at(actions, info, &mut threads[slot])
 }
 
 /// Whether the number is above that of the last signal.
 fn is_no_signal(number: u32) -> bool
-    ensures { result ≡ spec.is_no_signal number }
+    ensures { result ≡ is_no_signal number }
 {
     number > LAST_SIGNAL
 }
 
 /// Whether it is 0 or less, as a signed number.
 fn is_not_positive(number: u32) -> bool
-    ensures { result ≡ spec.is_not_positive number }
+    ensures { result ≡ is_no_tid number }
 {
     number == 0 || number >= 1 << 31
 }
 
 /// kill(2).
 pub fn kill_refusal(call: &LxCall) -> Option<LinuxErrno>
-    ensures { result ≡ first_refusal (spec.kill_refusals call.now) }
+    ensures { result ≡ first_refusal (kill_refusals call.now) }
 {
     refused_if(is_no_signal(call.low_argument(1)), LinuxErrno::EINVAL)
 }
 
 /// tkill(2).
 pub fn tkill_refusal(call: &LxCall) -> Option<LinuxErrno>
-    ensures { result ≡ first_refusal (spec.tkill_refusals call.now) }
+    ensures { result ≡ first_refusal (tkill_refusals call.now) }
 {
     refused_if(
         is_not_positive(call.low_argument(0)) || is_no_signal(call.low_argument(1)),
@@ -202,7 +210,7 @@ pub fn tkill_refusal(call: &LxCall) -> Option<LinuxErrno>
 
 /// tgkill(2).
 pub fn tgkill_refusal(call: &LxCall) -> Option<LinuxErrno>
-    ensures { result ≡ first_refusal (spec.tgkill_refusals call.now) }
+    ensures { result ≡ first_refusal (tgkill_refusals call.now) }
 {
     refused_if(
         is_not_positive(call.low_argument(0))
@@ -214,35 +222,21 @@ pub fn tgkill_refusal(call: &LxCall) -> Option<LinuxErrno>
 
 /// Whether it is the process, as kill(2) names it.
 fn is_own_process(pid: u32) -> bool
-    ensures { result ≡ spec.is_own_process pid }
+    ensures { result ≡ is_own_process pid }
 {
     pid == OWN_ID || pid == 0 || pid == u32::MAX - (OWN_ID - 1)
 }
 
 /// Whether it is a real-time signal, and no more of them can be queued.
 fn is_over_limit(count: usize, signal: LinuxSig) -> bool
-    ensures { result ≡ spec.is_over_limit count signal }
+    ensures { result ≡ is_over_limit count signal }
 {
     signal.is_real_time() && count >= MOST_QUEUED
 }
 
-/// What is sent, with this code.
-fn sent_by(code: i32, signal: LinuxSig) -> SigInfo
-    ensures { result ≡ spec.sent_by code signal }
-{
-    SigInfo {
-        signal,
-        code,
-        origin: Origin::Sender {
-            pid: OWN_ID,
-            uid: OWN_ID,
-        },
-    }
-}
-
 /// What is sent to the process; without a signal it is only checked.
 fn process_sending(count: usize, signal: Option<LinuxSig>) -> Sending
-    ensures { result ≡ spec.process_sending count signal }
+    ensures { result ≡ process_sending count signal }
 {
     match signal {
         Some(signal) if is_over_limit(count, signal) => Sending::Refused(LinuxErrno::EAGAIN),
@@ -251,20 +245,23 @@ fn process_sending(count: usize, signal: Option<LinuxSig>) -> Sending
     }
 }
 
-/// What is sent to the live thread with this tid; without a signal it is only checked.
-fn thread_sending(count: usize, tid: u32, signal: Option<LinuxSig>) -> Sending
-    ensures { result ≡ spec.thread_sending count tid signal }
+/// What is sent to the live thread in this slot, if there is one; without a signal it is only checked.
+fn thread_sending(count: usize, slot: Option<usize>, signal: Option<LinuxSig>) -> Sending
+    ensures { result ≡ thread_sending count slot signal }
 {
-    match signal {
-        Some(signal) if is_over_limit(count, signal) => Sending::Refused(LinuxErrno::EAGAIN),
-        Some(signal) => Sending::ToThread(tid, sent_by(SI_TKILL, signal)),
-        None => Sending::Checked,
+    match (slot, signal) {
+        (None, _) => Sending::Refused(LinuxErrno::ESRCH),
+        (Some(_), None) => Sending::Checked,
+        (Some(_), Some(signal)) if is_over_limit(count, signal) => {
+            Sending::Refused(LinuxErrno::EAGAIN)
+        }
+        (Some(slot), Some(signal)) => Sending::ToThread(slot, sent_by(SI_TKILL, signal)),
     }
 }
 
 /// What kill(2) sends, where so many real-time signals are queued.
 pub fn kill_sending(count: usize, call: &LxCall) -> Sending
-    ensures { result ≡ spec.kill_sending count call.now }
+    ensures { result ≡ kill_sending count call.now }
 {
     if is_own_process(call.low_argument(0)) {
         process_sending(count, LinuxSig::new(u64::from(call.low_argument(1))))
@@ -275,31 +272,26 @@ pub fn kill_sending(count: usize, call: &LxCall) -> Sending
 
 /// What tkill(2) sends, where so many real-time signals are queued.
 pub fn tkill_sending(threads: &[Option<LxThread>; THREADS], count: usize, call: &LxCall) -> Sending
-    ensures { result ≡ spec.tkill_sending threads.now count call.now }
+    ensures { result ≡ tkill_sending threads.now count call.now }
 {
-    let tid = call.low_argument(0);
-    if has_live(tid, threads) {
-        thread_sending(count, tid, LinuxSig::new(u64::from(call.low_argument(1))))
-    } else {
-        Sending::Refused(LinuxErrno::ESRCH)
-    }
+    let slot = live_slot(call.low_argument(0), threads);
+    thread_sending(count, slot, LinuxSig::new(u64::from(call.low_argument(1))))
 }
 
 /// What tgkill(2) sends, where so many real-time signals are queued.
 pub fn tgkill_sending(threads: &[Option<LxThread>; THREADS], count: usize, call: &LxCall) -> Sending
-    ensures { result ≡ spec.tgkill_sending threads.now count call.now }
+    ensures { result ≡ tgkill_sending threads.now count call.now }
 {
-    let tid = call.low_argument(1);
-    if call.low_argument(0) == OWN_ID && has_live(tid, threads) {
-        thread_sending(count, tid, LinuxSig::new(u64::from(call.low_argument(2))))
-    } else {
-        Sending::Refused(LinuxErrno::ESRCH)
+    if call.low_argument(0) != OWN_ID {
+        return Sending::Refused(LinuxErrno::ESRCH);
     }
+    let slot = live_slot(call.low_argument(1), threads);
+    thread_sending(count, slot, LinuxSig::new(u64::from(call.low_argument(2))))
 }
 
 /// The call is answered with 0, or refused.
 pub fn answer_by(sending: Sending, call: &mut LxCall)
-    ensures { call.new ≡ spec.answered_by sending call.old }
+    ensures { call.new ≡ answered_by sending call.old }
 {
     match sending {
         Sending::Refused(e) => call.refuse(e),
@@ -307,27 +299,22 @@ pub fn answer_by(sending: Sending, call: &mut LxCall)
     }
 }
 
-/// It is sent. Where memory is wanting, nothing changes.
+/// It is sent. `NoMemory`: the list that gets it has no room for it; then nothing changes.
 pub fn perform(
     sending: Sending,
     actions: &[Action; 64],
     threads: &mut [Option<LxThread>; THREADS],
     shared: &mut Pending,
 ) -> Result<(), NoMemory>
-    ensures shared { OnOk result (shared.new ≡ spec.pending_after sending actions.now shared.old) }
-    ensures threads { OnOk result (threads.new ≡ spec.threads_after sending actions.now threads.old) }
+    ensures shared { OnOk result (shared.new ≡ pending_after sending actions.now shared.old) }
+    ensures threads { OnOk result (threads.new ≡ threads_after sending actions.now threads.old) }
     ensures shared_err { OnErr result (shared.new ≡ shared.old) }
     ensures threads_err { OnErr result (threads.new ≡ threads.old) }
+    ensures full { OnErr result (has_room sending actions.now threads.old shared.old ≡ false) }
 {
     match sending {
-        Sending::ToProcess(info) => {
-            let ignored = is_ignored(action_of(actions, info.signal), info.signal);
-            send(ignored, info, shared)
-        }
-        Sending::ToThread(tid, info) => {
-            let ignored = is_ignored(action_of(actions, info.signal), info.signal);
-            send_to(tid, ignored, info, threads)
-        }
+        Sending::ToProcess(info) => send(actions, info, shared),
+        Sending::ToThread(slot, info) => send_to(slot, actions, info, threads),
         _ => Ok(()),
     }
 }

@@ -1,16 +1,18 @@
 //! How a thread takes a signal, and how a call returns (signal(7), sigaction(2)).
 ghost use Rattle.std.specs.Prelude.{◌≡◌, ◌<◌, Some, None, if◌then◌else◌};
-ghost use Rattle.lx_machine.specs.Step.{is_user};
-ghost use Rattle.lx_signals.specs.Taking as spec;
-ghost use Rattle.lx_signals.specs.Taking.{has_flag, action_among, with_action, found_in, listed, regs_after, given_back, Gives, Delivers};
+ghost use Rattle.lx_machine.specs.Threads.{is_user};
+ghost use Rattle.lx_machine.specs.Delivery.{Delivers, Gives, actions_by, delivered_from, ends_by, fate_by, forced, forced_by, is_reset, judged, kept_delivered, no_fate, out_of_call, own_mask, regs_after, removed_from, reset, return_thread, returned, segv_code, starts_again, take_pending, take_thread, taken_at_return, thread_by, unmasked};
+ghost use Rattle.lx_machine.specs.Signal.{action_of, found_in, is_ignored, listed, with_action};
 
 use a64_model::regs::Regs;
 use linux_abi::LinuxSig;
-use linux_abi::signals::{SA_RESETHAND, SA_RESTART, SEGV_ACCERR, SEGV_MAPERR, SIG_DFL, SIG_IGN};
+use linux_abi::signals::{
+    SEGV_ACCERR, SEGV_MAPERR, SIG_DFL, has_handler, is_default, is_ignore, resets, restarts_calls,
+};
 use lx_machine::calls::Stage;
 use lx_machine::label::PendingList;
 use lx_machine::refusal::LxRefusal;
-use lx_machine::signals::{Action, Kept, Origin, Pending, SigInfo, Taken, has_signal};
+use lx_machine::signals::{Action, Fate, Origin, Pending, SigInfo, Taken, has_signal};
 use lx_machine::threads::{Life, LxThread};
 use lx_memory::Memory;
 use lx_memory::queries::all_mapped;
@@ -18,31 +20,15 @@ use lx_memory::queries::all_mapped;
 /// A signal that a step names: the list in which it stands, and which it is.
 pub type Named = (PendingList, LinuxSig);
 
-/// What follows of a delivered signal: the signal that ends the guest, if one does, and the signal whose pending ones end in
-/// all lists, if there is one.
-#[derive(Clone, Copy)]
-pub struct Fate {
-    pub ends: Option<LinuxSig>,
-    pub forgets: Option<LinuxSig>,
-}
-
 /// The bytes of a page.
 const PAGE: u64 = 4096;
 
 /// Back to the instruction before, modulo 2^64.
 const BACK: u64 = u64::MAX - 3;
 
-/// The action that a guest begins with, and that SA_RESETHAND sets.
-pub const DEFAULT_ACTION: Action = Action {
-    handler: SIG_DFL,
-    flags: 0,
-    restorer: 0,
-    mask: 0,
-};
-
 /// Nothing follows.
 fn no_fate() -> Fate
-    ensures { result ≡ spec.no_fate }
+    ensures { result ≡ no_fate }
 {
     Fate {
         ends: None,
@@ -52,7 +38,7 @@ fn no_fate() -> Fate
 
 /// The guest ends by this signal.
 fn ends_by(signal: LinuxSig) -> Fate
-    ensures { result ≡ spec.ends_by signal }
+    ensures { result ≡ ends_by signal }
 {
     Fate {
         ends: Some(signal),
@@ -60,17 +46,9 @@ fn ends_by(signal: LinuxSig) -> Fate
     }
 }
 
-/// Whether a flag, a power of two, is set.
-pub fn has_flag(flag: u64, flags: u64) -> bool
-    requires { 0 < flag }
-    ensures { result ≡ has_flag flag flags }
-{
-    flags / flag % 2 == 1
-}
-
 /// The action of a signal.
 pub fn action_of(actions: &[Action; 64], signal: LinuxSig) -> Action
-    ensures { result ≡ action_among actions.now signal }
+    ensures { result ≡ action_of actions.now signal }
 {
     actions[(signal.number() - 1) as usize]
 }
@@ -84,50 +62,53 @@ pub fn set_action(actions: &mut [Action; 64], signal: LinuxSig, action: Action)
 
 /// Whether the signal is ignored, or dropped by default.
 pub fn is_ignored(action: Action, signal: LinuxSig) -> bool
-    ensures { result ≡ spec.is_ignored action signal }
+    ensures { result ≡ is_ignored action signal }
 {
-    action.handler == SIG_IGN || (action.handler == SIG_DFL && signal.is_dropped_by_default())
+    is_ignore(action.handler) || (is_default(action.handler) && signal.is_dropped_by_default())
 }
 
-/// Whether a handler is to run.
-fn has_handler(action: Action) -> bool
-    ensures { result ≡ spec.has_handler action }
-{
-    action.handler > SIG_IGN
-}
-
-/// Whether the action becomes the default one as its handler is to run.
+/// Whether SA_RESETHAND is set, and a handler is to run.
 fn is_reset(action: Action) -> bool
-    ensures { result ≡ spec.is_reset action }
+    ensures { result ≡ is_reset action }
 {
-    has_handler(action) && has_flag(SA_RESETHAND, action.flags)
+    has_handler(action.handler) && resets(action.flags)
+}
+
+/// The action with the default handler.
+fn reset(action: Action) -> Action
+    ensures { result ≡ reset action }
+{
+    Action {
+        handler: SIG_DFL,
+        ..action
+    }
 }
 
 /// What becomes of the thread: where a handler is to run, it is to get its frame, and its mark ends.
 fn set_taken(action: Action, thread: &mut LxThread, info: SigInfo)
-    ensures { thread.new ≡ spec.thread_by action thread.old info }
+    ensures { thread.new ≡ thread_by action thread.old info }
 {
-    if has_handler(action) {
+    if has_handler(action.handler) {
         thread.taken = Some(Taken { info, action });
         thread.mark = None;
     }
 }
 
-/// What becomes of the actions: SA_RESETHAND sets the default one.
-fn reset(action: Action, actions: &mut [Action; 64], signal: LinuxSig)
-    ensures { actions.new ≡ spec.actions_by action actions.old signal }
+/// What becomes of the actions: SA_RESETHAND makes the handler the default one.
+fn reset_in(action: Action, actions: &mut [Action; 64], signal: LinuxSig)
+    ensures { actions.new ≡ actions_by action actions.old signal }
 {
     if is_reset(action) {
-        set_action(actions, signal, DEFAULT_ACTION);
+        set_action(actions, signal, reset(action));
     }
 }
 
 /// What follows of a delivered signal.
 fn fate_by(action: Action, signal: LinuxSig) -> Fate
-    ensures { result ≡ spec.fate_by action signal }
+    ensures { result ≡ fate_by action signal }
 {
     let drops = signal.is_dropped_by_default();
-    let ends = if action.handler == SIG_DFL && !drops {
+    let ends = if is_default(action.handler) && !drops {
         Some(signal)
     } else {
         None
@@ -147,20 +128,20 @@ fn deliver_by(
     thread: &mut LxThread,
     info: SigInfo,
 ) -> Fate
-    ensures thread { thread.new ≡ spec.thread_by action thread.old info }
-    ensures actions { actions.new ≡ spec.actions_by action actions.old info.signal }
-    ensures fate { result ≡ spec.fate_by action info.signal }
+    ensures thread { thread.new ≡ thread_by action thread.old info }
+    ensures actions { actions.new ≡ actions_by action actions.old info.signal }
+    ensures fate { result ≡ fate_by action info.signal }
 {
     set_taken(action, thread, info);
-    reset(action, actions, info.signal);
+    reset_in(action, actions, info.signal);
     fate_by(action, info.signal)
 }
 
 /// A signal is delivered: it ends the guest or is dropped by default, or is ignored, or its handler is to run.
 fn deliver(actions: &mut [Action; 64], thread: &mut LxThread, info: SigInfo) -> Fate
-    ensures thread { thread.new ≡ spec.thread_by (action_among actions.old info.signal) thread.old info }
-    ensures actions { actions.new ≡ spec.actions_by (action_among actions.old info.signal) actions.old info.signal }
-    ensures fate { result ≡ spec.fate_by (action_among actions.old info.signal) info.signal }
+    ensures thread { thread.new ≡ thread_by (action_of actions.old info.signal) thread.old info }
+    ensures actions { actions.new ≡ actions_by (action_of actions.old info.signal) actions.old info.signal }
+    ensures fate { result ≡ fate_by (action_of actions.old info.signal) info.signal }
 {
     let action = action_of(actions, info.signal);
     deliver_by(action, actions, thread, info)
@@ -193,6 +174,17 @@ pub fn found(
     }
 }
 
+/// The signal leaves its list, the thread's own or the shared one.
+pub fn remove_from(thread: &mut LxThread, shared: &mut Pending, list: PendingList, info: SigInfo)
+    ensures thread { thread.new ≡ (removed_from thread.old shared.old list info).thread }
+    ensures shared { shared.new ≡ (removed_from thread.old shared.old list info).pending }
+{
+    match list {
+        PendingList::Own => thread.pending.remove(info.signal),
+        PendingList::Shared => shared.remove(info.signal),
+    }
+}
+
 /// The signal leaves its list, and is delivered.
 fn take_out(
     actions: &mut [Action; 64],
@@ -201,12 +193,9 @@ fn take_out(
     list: PendingList,
     info: SigInfo,
 ) -> Fate
-    ensures { Gives (spec.taken actions.old thread.old shared.old list info) thread.new shared.new actions.new result }
+    ensures { Gives (delivered_from actions.old thread.old shared.old list info) thread.new shared.new actions.new result }
 {
-    match list {
-        PendingList::Own => thread.pending.remove(info.signal),
-        PendingList::Shared => shared.remove(info.signal),
-    }
+    remove_from(thread, shared, list, info);
     deliver(actions, thread, info)
 }
 
@@ -218,7 +207,7 @@ fn take(
     list: PendingList,
     signal: LinuxSig,
 ) -> Result<Fate, LxRefusal>
-    ensures { Delivers (spec.take actions.old thread.old shared.old list signal) thread.old thread.new shared.old shared.new actions.old actions.new result }
+    ensures { Delivers (take_pending actions.old thread.old shared.old list signal) thread.old thread.new shared.old shared.new actions.old actions.new result }
 {
     match found(thread.mask, &thread.pending, shared, list, signal) {
         Some(info) => Ok(take_out(actions, thread, shared, list, info)),
@@ -240,15 +229,15 @@ fn set_regs(again: bool, regs: &mut Regs, first: u64, n: u64)
 
 /// The call is over: it has this result, or starts again with this first argument.
 fn leave_call(again: bool, thread: &mut LxThread, first: u64, n: u64)
-    ensures { thread.new ≡ spec.out_of_call thread.old (regs_after again thread.old.regs first n) }
+    ensures { thread.new ≡ out_of_call thread.old (regs_after again thread.old.regs first n) }
 {
     set_regs(again, &mut thread.regs, first, n);
     thread.call = None;
 }
 
 /// The mask that a call gives back when it returns.
-pub fn given_back(mask: u64, saved: Option<u64>) -> u64
-    ensures { result ≡ given_back mask saved }
+pub fn own_mask(mask: u64, saved: Option<u64>) -> u64
+    ensures { result ≡ own_mask mask saved }
 {
     match saved {
         Some(saved) => saved,
@@ -258,9 +247,9 @@ pub fn given_back(mask: u64, saved: Option<u64>) -> u64
 
 /// The thread's mask is again what it was before the call.
 fn unmask(thread: &mut LxThread)
-    ensures { thread.new ≡ spec.unmasked thread.old }
+    ensures { thread.new ≡ unmasked thread.old }
 {
-    thread.mask = given_back(thread.mask, thread.saved_mask);
+    thread.mask = own_mask(thread.mask, thread.saved_mask);
     thread.saved_mask = None;
 }
 
@@ -275,9 +264,9 @@ fn return_taking(
     list: PendingList,
     signal: LinuxSig,
 ) -> Result<Fate, LxRefusal>
-    ensures { Delivers (spec.settled actions.old (spec.out_of_call thread.old (regs_after again thread.old.regs first n)) shared.old (Some (list, signal))) thread.old thread.new shared.old shared.new actions.old actions.new result }
+    ensures { Delivers (taken_at_return actions.old (out_of_call thread.old (regs_after again thread.old.regs first n)) shared.old (Some (list, signal))) thread.old thread.new shared.old shared.new actions.old actions.new result }
 {
-    let mask = given_back(thread.mask, thread.saved_mask);
+    let mask = own_mask(thread.mask, thread.saved_mask);
     let Some(info) = found(mask, &thread.pending, shared, list, signal) else {
         return Err(LxRefusal::NoStep);
     };
@@ -295,9 +284,9 @@ fn return_quietly(
     first: u64,
     n: u64,
 ) -> Result<Fate, LxRefusal>
-    ensures { Delivers (spec.settled actions.now (spec.out_of_call thread.old (regs_after again thread.old.regs first n)) shared.now None) thread.old thread.new shared.now shared.now actions.now actions.now result }
+    ensures { Delivers (taken_at_return actions.now (out_of_call thread.old (regs_after again thread.old.regs first n)) shared.now None) thread.old thread.new shared.now shared.now actions.now actions.now result }
 {
-    let mask = given_back(thread.mask, thread.saved_mask);
+    let mask = own_mask(thread.mask, thread.saved_mask);
     if thread.pending.has_unblocked(mask) || shared.has_unblocked(mask) {
         return Err(LxRefusal::NoStep);
     }
@@ -317,7 +306,7 @@ fn settle(
     n: u64,
     named: Option<Named>,
 ) -> Result<Fate, LxRefusal>
-    ensures { Delivers (spec.settled actions.old (spec.out_of_call thread.old (regs_after again thread.old.regs first n)) shared.old named) thread.old thread.new shared.old shared.new actions.old actions.new result }
+    ensures { Delivers (taken_at_return actions.old (out_of_call thread.old (regs_after again thread.old.regs first n)) shared.old named) thread.old thread.new shared.old shared.new actions.old actions.new result }
 {
     match named {
         Some((list, signal)) => return_taking(
@@ -329,9 +318,9 @@ fn settle(
 
 /// Whether a call whose wait was ended by a signal with this action starts again.
 fn starts_again(restarts: bool, action: Action) -> bool
-    ensures { result ≡ spec.starts_again restarts action }
+    ensures { result ≡ starts_again restarts action }
 {
-    restarts && has_handler(action) && has_flag(SA_RESTART, action.flags)
+    restarts && has_handler(action.handler) && restarts_calls(action.flags)
 }
 
 /// Return, where the kept signal is still to be delivered: it is delivered with the call's mask, and none is named.
@@ -345,7 +334,7 @@ fn return_kept(
     n: u64,
     named: Option<Named>,
 ) -> Result<Fate, LxRefusal>
-    ensures { Delivers (spec.kept_delivered restarts actions.old thread.old shared.now info first n named) thread.old thread.new shared.now shared.now actions.old actions.new result }
+    ensures { Delivers (kept_delivered restarts actions.old thread.old shared.now info first n named) thread.old thread.new shared.now shared.now actions.old actions.new result }
 {
     if named.is_some() {
         return Err(LxRefusal::NoStep);
@@ -364,17 +353,15 @@ fn return_with(
     first: u64,
     n: u64,
     named: Option<Named>,
-    kept: Option<Kept>,
+    kept: Option<SigInfo>,
 ) -> Result<Fate, LxRefusal>
-    ensures { Delivers (spec.returned restarts actions.old thread.old shared.old first n named kept) thread.old thread.new shared.old shared.new actions.old actions.new result }
+    ensures { Delivers (returned restarts actions.old thread.old shared.old first n named kept) thread.old thread.new shared.old shared.new actions.old actions.new result }
 {
     match kept {
-        Some(kept) if is_ignored(action_of(actions, kept.info.signal), kept.info.signal) => settle(
+        Some(info) if is_ignored(action_of(actions, info.signal), info.signal) => settle(
             restarts, actions, thread, shared, first, n, named,
         ),
-        Some(kept) => return_kept(
-            restarts, actions, thread, shared, kept.info, first, n, named,
-        ),
+        Some(info) => return_kept(restarts, actions, thread, shared, info, first, n, named),
         None => settle(false, actions, thread, shared, first, n, named),
     }
 }
@@ -390,7 +377,7 @@ pub fn return_thread(
     shared: &mut Pending,
     named: Option<Named>,
 ) -> Result<Fate, LxRefusal>
-    ensures { Delivers (spec.return_thread restarts stage actions.old shared.old named thread.old) thread.old thread.new shared.old shared.new actions.old actions.new result }
+    ensures { Delivers (return_thread restarts stage actions.old shared.old named thread.old) thread.old thread.new shared.old shared.new actions.old actions.new result }
 {
     let Some(call) = &thread.call else {
         return Err(LxRefusal::NoStep);
@@ -406,20 +393,9 @@ pub fn return_thread(
     return_with(restarts, actions, thread, shared, first, n, named, kept)
 }
 
-/// The signal leaves its list, the thread's own or the shared one.
-pub fn remove_from(thread: &mut LxThread, shared: &mut Pending, list: PendingList, info: SigInfo)
-    ensures thread { thread.new ≡ (spec.kept_from thread.old shared.old list info).thread }
-    ensures shared { shared.new ≡ (spec.kept_from thread.old shared.old list info).pending }
-{
-    match list {
-        PendingList::Own => thread.pending.remove(info.signal),
-        PendingList::Shared => shared.remove(info.signal),
-    }
-}
-
 /// The code of a trap: that of SIGSEGV tells whether the address's page is mapped now (sigaction(2)).
 fn segv_code(memory: &Memory, origin: Origin, code: i32) -> i32
-    ensures { result ≡ spec.segv_code memory.now origin code }
+    ensures { result ≡ segv_code memory.now origin code }
 {
     match origin {
         Origin::Address(at) => {
@@ -435,7 +411,7 @@ fn segv_code(memory: &Memory, origin: Origin, code: i32) -> i32
 
 /// The information of a trap as its signal is taken.
 fn judged(memory: &Memory, info: SigInfo) -> SigInfo
-    ensures { result ≡ spec.judged memory.now info }
+    ensures { result ≡ judged memory.now info }
 {
     let code = if info.signal.number() == LinuxSig::SIGSEGV.number() {
         segv_code(memory, info.origin, info.code)
@@ -459,9 +435,9 @@ fn force_by(
     shared: &Pending,
     trap: SigInfo,
 ) -> Fate
-    ensures { Gives (spec.forced_by action actions.old memory.now thread.old shared.now trap) thread.new shared.now actions.new result }
+    ensures { Gives (forced_by action actions.old memory.now thread.old shared.now trap) thread.new shared.now actions.new result }
 {
-    if has_signal(thread.mask, trap.signal) || !has_handler(action) {
+    if has_signal(thread.mask, trap.signal) || !has_handler(action.handler) {
         return ends_by(trap.signal);
     }
     thread.trap = None;
@@ -477,7 +453,7 @@ fn force(
     trap: SigInfo,
     signal: LinuxSig,
 ) -> Result<Fate, LxRefusal>
-    ensures { Delivers (spec.forced actions.old memory.now thread.old shared.now trap signal) thread.old thread.new shared.now shared.now actions.old actions.new result }
+    ensures { Delivers (forced actions.old memory.now thread.old shared.now trap signal) thread.old thread.new shared.now shared.now actions.old actions.new result }
 {
     if trap.signal.number() != signal.number() {
         return Err(LxRefusal::NoStep);
@@ -507,7 +483,7 @@ pub fn take_thread(
     list: PendingList,
     signal: LinuxSig,
 ) -> Result<Fate, LxRefusal>
-    ensures { Delivers (spec.take_thread actions.old memory.now shared.old list signal thread.old) thread.old thread.new shared.old shared.new actions.old actions.new result }
+    ensures { Delivers (take_thread actions.old memory.now shared.old list signal thread.old) thread.old thread.new shared.old shared.new actions.old actions.new result }
 {
     match (thread.trap, list) {
         (Some(trap), PendingList::Own) => force(actions, memory, thread, shared, trap, signal),

@@ -3,8 +3,8 @@ use Rattle.std.proofs.Common.{◌≡◌, ℕ, ◌+◌, ◌*◌, ◌/◌, ◌%◌
 use Rattle.std.proofs.lemmas.Bool.{cases_eq}
 use Rattle.std.proofs.lemmas.Grind.{common_steps}
 use Rattle.std.specs.FinMap as finite
-use Rattle.vm_areas.specs.declared.runs.Rights.{Rights}
-use Rattle.vm_areas.specs.PageMap.{within}
+use Rattle.page_ranges.specs.declared.rights.Rights.{Rights}
+use Rattle.page_ranges.specs.Ranges.{within}
 use Rattle.page_store.specs.Pages.{Page, Pages, changed}
 use Rattle.page_store.proofs.Changed.{changed_kept, changed_none}
 use Rattle.lx_memory.specs.Bytes.{IsMapped, with_byte_in, with_byte, with_bytes}

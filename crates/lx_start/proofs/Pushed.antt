@@ -2,7 +2,7 @@
 use Rattle.std.proofs.Common.{◌≡◌, ℕ, ◌+◌, ◌<◌, ◌≤◌, List, [], ◌∷◌, ◌++◌, length, map, take, drop, get_or, arith, refl, sym, ap, ◌∙◌, append_assoc}
 use Rattle.std.proofs.lemmas.List.{length-append, take_more, take-append-drop, map-append, append-nil}
 use Rattle.places.specs.Places.{bytes_of}
-use Rattle.lx_start.specs.Stack.{ended_texts, argument_places, words}
+use Rattle.lx_machine.specs.Stack.{argument_places, ended_texts, stack_words}
 
 ended_append : (xs ys : List (List ℕ)) → ended_texts (xs ++ ys) ≡ ended_texts xs ++ ended_texts ys
 ended_append [] ys = refl
@@ -14,9 +14,9 @@ places_append at (x ∷ xs) ys =
     let past : at + length x + 1 + length (ended_texts xs) ≡ at + length (ended_texts (x ∷ xs)) = omega (arith, length-append (x ++ 0 ∷ []) (ended_texts xs), length-append x (0 ∷ [])) in
     ap (λ (rest : List ℕ). at ∷ rest) (places_append (at + length x + 1) xs ys ∙ ap (λ (a : ℕ). argument_places (at + length x + 1) xs ++ argument_places a ys) past)
 
-words_append : (xs ys : List ℕ) → words (xs ++ ys) ≡ words xs ++ words ys
+words_append : (xs ys : List ℕ) → stack_words (xs ++ ys) ≡ stack_words xs ++ stack_words ys
 words_append [] ys = refl
-words_append (x ∷ xs) ys = ap (λ (rest : List ℕ). bytes_of x 8 ++ rest) (words_append xs ys) ∙ sym (append_assoc (bytes_of x 8) (words xs) (words ys))
+words_append (x ∷ xs) ys = ap (λ (rest : List ℕ). bytes_of x 8 ++ rest) (words_append xs ys) ∙ sym (append_assoc (bytes_of x 8) (stack_words xs) (stack_words ys))
 
 -- the first i texts and the next
 next_text : {T : Type 0} (f : T → List ℕ) (texts : List T) (i : ℕ) (t : T) → i < length texts → get_or texts i t ≡ t → map f (take (i + 1) texts) ≡ map f (take i texts) ++ f t ∷ []
@@ -32,11 +32,11 @@ pushed_text f texts i t lt is =
 pub pushed_place : {T : Type 0} (f : T → List ℕ) (at : ℕ) (texts : List T) (i : ℕ) (t : T) → i < length texts → get_or texts i t ≡ t → argument_places at (map f (take (i + 1) texts)) ≡ argument_places at (map f (take i texts)) ++ (at + length (ended_texts (map f (take i texts)))) ∷ []
 pushed_place f at texts i t lt is = ap (argument_places at) (next_text f texts i t lt is) ∙ places_append at (map f (take i texts)) (f t ∷ [])
 
-pub pushed_word : (ns : List ℕ) (i : ℕ) → i < length ns → words (take (i + 1) ns) ≡ words (take i ns) ++ bytes_of (get_or ns i 0) 8
+pub pushed_word : (ns : List ℕ) (i : ℕ) → i < length ns → stack_words (take (i + 1) ns) ≡ stack_words (take i ns) ++ bytes_of (get_or ns i 0) 8
 pushed_word ns i lt =
-    ap words (take_more ns i 0 lt)
+    ap stack_words (take_more ns i 0 lt)
     ∙ words_append (take i ns) (get_or ns i 0 ∷ [])
-    ∙ ap (λ (last : List ℕ). words (take i ns) ++ last) (append-nil (bytes_of (get_or ns i 0) 8))
+    ∙ ap (λ (last : List ℕ). stack_words (take i ns) ++ last) (append-nil (bytes_of (get_or ns i 0) 8))
 
 pub pushed_length : {T : Type 0} (f : T → List ℕ) (texts : List T) (i : ℕ) (t : T) → i < length texts → get_or texts i t ≡ t → length (ended_texts (map f (take (i + 1) texts))) ≡ length (ended_texts (map f (take i texts))) + (length (f t) + 1)
 pushed_length f texts i t lt is =

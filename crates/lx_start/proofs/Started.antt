@@ -4,9 +4,9 @@ use Rattle.std.specs.FinMap as map
 use Rattle.lx_memory.specs.Bytes.{with_bytes}
 use Rattle.lx_memory.specs.Ranges.{mapped}
 use Rattle.elf_image.specs.declared.parts.Image.{Image}
-use Rattle.lx_machine.specs.Signals.{default_action}
-use Rattle.lx_start.specs.Stack.{stack_end}
-use Rattle.lx_start.specs.Start.{headers_of, with_segments, stack_rights, with_return_page, last_end, first_thread, first_files, start}
+use Rattle.lx_machine.specs.Signal.{default_action}
+use Rattle.lx_machine.specs.Stack.{stack_end}
+use Rattle.lx_machine.specs.Start.{first_files, first_thread, headers_of, last_end, stack_rights, start, with_return_page, with_segments}
 use Rattle.lx_start.specs.declared.stack.FirstStack.{FirstStack}
 use Rattle.lx_start.specs.FirstStack.{IsFirstStack}
 use Rattle.lx_start.specs.Parts.{regs_with, state_with}

@@ -3,7 +3,7 @@
 use Rattle.std.specs.Prelude.{◌≡◌, ℕ, ◌+◌, ◌≤◌, List, ◌++◌, length}
 use Rattle.lx_start.specs.declared.stack.Texts.{Texts}
 use Rattle.lx_start.specs.declared.stack.FirstStack.{FirstStack}
-use Rattle.lx_start.specs.Stack.{Headers, stack_end, ended_texts, texts, random_bytes, random_at, name_at, table, table_at, words}
+use Rattle.lx_machine.specs.Stack.{Headers, ended_texts, name_at, random_at, random_bytes, stack_end, stack_words, table, table_at, texts}
 
 -- the random bytes and the texts, with their addresses
 pub record IsTexts (name : List ℕ) (arguments : List (List ℕ)) (seed : ℕ) (above : Texts) : Type 0 where
@@ -22,7 +22,7 @@ pub record IsInStack (stack : FirstStack) : Type 0 where
 -- sp, the table, and what stands above it
 pub record IsFirstStack (h : Headers) (name : List ℕ) (arguments : List (List ℕ)) (seed : ℕ) (stack : FirstStack) : Type 0 where
   pub sp : stack.sp ≡ table_at h name arguments
-  pub table : stack.table.items ≡ words (table h name arguments)
+  pub table : stack.table.items ≡ stack_words (table h name arguments)
   pub texts_at : stack.texts_at ≡ random_at name arguments
   pub texts : stack.texts.items ≡ random_bytes seed ++ texts name arguments
   pub inside : IsInStack stack

@@ -1,4 +1,2 @@
 pub mod FirstStack
 pub mod Parts
-pub mod Stack
-pub mod Start

@@ -8,9 +8,9 @@ use Rattle.elf_image.specs.declared.parts.Image.{Image}
 use Rattle.a64_model.specs.declared.regs.Regs.{Regs}
 use Rattle.lx_machine.specs.declared.state.LinuxState.{LinuxState}
 use Rattle.lx_machine.specs.declared.space.Space.{Space}
-use Rattle.lx_machine.specs.Signals.{default_action}
-use Rattle.lx_start.specs.Stack.{stack_end}
-use Rattle.lx_start.specs.Start.{with_segments, stack_rights, with_return_page, last_end, first_thread, first_files}
+use Rattle.lx_machine.specs.Signal.{default_action}
+use Rattle.lx_machine.specs.Stack.{stack_end}
+use Rattle.lx_machine.specs.Start.{first_files, first_thread, last_end, stack_rights, with_return_page, with_segments}
 use Rattle.lx_start.specs.declared.stack.FirstStack.{FirstStack}
 
 -- the stack's pages, with the table and what stands above it

@@ -4,5 +4,3 @@
 
 pub mod stack;
 pub mod start;
-#[cfg(test)]
-mod tests;

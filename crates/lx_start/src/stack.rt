@@ -1,8 +1,8 @@
 //! The first stack: what a program finds at sp (execve(2), getauxval(3)).
 ghost use Rattle.std.specs.Prelude.{◌≡◌, ℕ, ◌+◌, ◌-◌, ◌*◌, ◌/◌, ◌<◌, ◌≤◌, ◌++◌, ◌∷◌, [], ◌^◌, map, length, string_bytes, IfOk, OnOk};
 ghost use Rattle.places.specs.Places.{bytes_of};
-ghost use Rattle.lx_start.specs.Stack as spec;
-ghost use Rattle.lx_start.specs.Start.{headers_of};
+ghost use Rattle.lx_machine.specs.Stack.{argument_places, auxiliary, ended_texts, random_bytes, stack_words, texts};
+ghost use Rattle.lx_machine.specs.Start.{headers_of};
 ghost use Rattle.lx_start.specs.FirstStack.{IsFirstStack, IsTexts};
 
 use elf_image::Image;
@@ -69,7 +69,7 @@ fn push_text(bytes: &mut Vec<u8>, text: &[u8]) -> Result<(), AllocError>
 
 /// Appends texts with a zero byte behind each.
 fn push_texts(bytes: &mut Vec<u8>, texts: &[String]) -> Result<(), AllocError>
-    ensures { OnOk result (bytes.new.items ≡ bytes.old.items ++ spec.ended_texts (map string_bytes texts.now)) }
+    ensures { OnOk result (bytes.new.items ≡ bytes.old.items ++ ended_texts (map string_bytes texts.now)) }
 {
     for text in texts {
         push_text(bytes, text.as_bytes())?;
@@ -79,7 +79,7 @@ fn push_texts(bytes: &mut Vec<u8>, texts: &[String]) -> Result<(), AllocError>
 
 /// Appends 16 bytes at random (AT_RANDOM).
 fn push_random(bytes: &mut Vec<u8>, seed: u64) -> Result<(), AllocError>
-    ensures { OnOk result (bytes.new.items ≡ bytes.old.items ++ spec.random_bytes seed) }
+    ensures { OnOk result (bytes.new.items ≡ bytes.old.items ++ random_bytes seed) }
 {
     bytes.extend_from_slice(&seed.to_le_bytes())?;
     bytes.extend_from_slice(&(seed ^ GOLDEN).to_le_bytes())
@@ -87,7 +87,7 @@ fn push_random(bytes: &mut Vec<u8>, seed: u64) -> Result<(), AllocError>
 
 /// Appends the arguments, the image name behind them, and 8 zero bytes.
 fn push_all_texts(bytes: &mut Vec<u8>, name: &[u8], arguments: &[String]) -> Result<(), AllocError>
-    ensures { OnOk result (bytes.new.items ≡ bytes.old.items ++ spec.texts name.now (map string_bytes arguments.now)) }
+    ensures { OnOk result (bytes.new.items ≡ bytes.old.items ++ texts name.now (map string_bytes arguments.now)) }
 {
     push_texts(bytes, arguments)?;
     push_text(bytes, name)?;
@@ -101,7 +101,7 @@ fn bytes_above(
     arguments: &[String],
     seed: u64,
 ) -> Result<Vec<u8>, AllocError>
-    ensures { IfOk result (λ bytes. bytes.items ≡ spec.random_bytes seed ++ spec.texts name.now (map string_bytes arguments.now)) }
+    ensures { IfOk result (λ bytes. bytes.items ≡ random_bytes seed ++ texts name.now (map string_bytes arguments.now)) }
 {
     let mut bytes = Vec::new(alloc);
     push_random(&mut bytes, seed)?;
@@ -126,8 +126,8 @@ fn texts_of(alloc: Global, name: &[u8], arguments: &[String], seed: u64) -> Resu
 
 /// Appends the address of each text, the first of which stands at `at`.
 fn push_places(words: &mut Vec<u64>, at: u64, texts: &[String]) -> Result<(), AllocError>
-    requires { at + length (spec.ended_texts (map string_bytes texts.now)) < 2 ^ 64 }
-    ensures { OnOk result (words.new.items ≡ words.old.items ++ spec.argument_places at (map string_bytes texts.now)) }
+    requires { at + length (ended_texts (map string_bytes texts.now)) < 2 ^ 64 }
+    ensures { OnOk result (words.new.items ≡ words.old.items ++ argument_places at (map string_bytes texts.now)) }
 {
     let mut next = at;
     for text in texts {
@@ -139,7 +139,7 @@ fn push_places(words: &mut Vec<u64>, at: u64, texts: &[String]) -> Result<(), Al
 
 /// The auxiliary vector (getauxval(3)).
 fn auxiliary(image: &Image, random: u64, name: u64) -> [u64; 28]
-    ensures { result ≡ spec.auxiliary (headers_of image.now) random name }
+    ensures { result ≡ auxiliary (headers_of image.now) random name }
 {
     [
         AT_PHDR,
@@ -180,8 +180,8 @@ fn push_arguments(
     arguments: &[String],
 ) -> Result<(), AllocError>
     requires few { length arguments.now ≤ 0x8000 }
-    requires fits { texts.now.at + 16 + length (spec.ended_texts (map string_bytes arguments.now)) < 2 ^ 64 }
-    ensures { OnOk result (words.new.items ≡ words.old.items ++ (length arguments.now + 1) ∷ texts.now.name_at ∷ spec.argument_places (texts.now.at + 16) (map string_bytes arguments.now)) }
+    requires fits { texts.now.at + 16 + length (ended_texts (map string_bytes arguments.now)) < 2 ^ 64 }
+    ensures { OnOk result (words.new.items ≡ words.old.items ++ (length arguments.now + 1) ∷ texts.now.name_at ∷ argument_places (texts.now.at + 16) (map string_bytes arguments.now)) }
 {
     words.push(arguments.len() as u64 + 1)?;
     words.push(texts.name_at)?;
@@ -196,8 +196,8 @@ fn table_of(
     arguments: &[String],
 ) -> Result<Vec<u64>, AllocError>
     requires few { length arguments.now ≤ 0x8000 }
-    requires fits { texts.now.at + 16 + length (spec.ended_texts (map string_bytes arguments.now)) < 2 ^ 64 }
-    ensures { IfOk result (λ words. words.items ≡ (length arguments.now + 1) ∷ texts.now.name_at ∷ (spec.argument_places (texts.now.at + 16) (map string_bytes arguments.now) ++ 0 ∷ 0 ∷ spec.auxiliary (headers_of image.now) texts.now.at texts.now.name_at)) }
+    requires fits { texts.now.at + 16 + length (ended_texts (map string_bytes arguments.now)) < 2 ^ 64 }
+    ensures { IfOk result (λ words. words.items ≡ (length arguments.now + 1) ∷ texts.now.name_at ∷ (argument_places (texts.now.at + 16) (map string_bytes arguments.now) ++ 0 ∷ 0 ∷ auxiliary (headers_of image.now) texts.now.at texts.now.name_at)) }
 {
     let mut words = Vec::new(alloc);
     push_arguments(&mut words, texts, arguments)?;
@@ -208,7 +208,7 @@ fn table_of(
 
 /// Appends words of 8 bytes each.
 fn push_words(bytes: &mut Vec<u8>, words: &[u64]) -> Result<(), AllocError>
-    ensures { OnOk result (bytes.new.items ≡ bytes.old.items ++ spec.words words.now) }
+    ensures { OnOk result (bytes.new.items ≡ bytes.old.items ++ stack_words words.now) }
 {
     for word in words {
         bytes.extend_from_slice(&word.to_le_bytes())?;
@@ -218,7 +218,7 @@ fn push_words(bytes: &mut Vec<u8>, words: &[u64]) -> Result<(), AllocError>
 
 /// The bytes of words.
 fn bytes_of_words(alloc: Global, words: &[u64]) -> Result<Vec<u8>, AllocError>
-    ensures { IfOk result (λ bytes. bytes.items ≡ spec.words words.now) }
+    ensures { IfOk result (λ bytes. bytes.items ≡ stack_words words.now) }
 {
     let mut bytes = Vec::new(alloc);
     push_words(&mut bytes, words)?;

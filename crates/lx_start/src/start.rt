@@ -1,12 +1,12 @@
 //! The state in which a program starts (execve(2), ELF-64).
 ghost use Rattle.std.specs.Prelude.{◌≡◌, ℕ, ◌+◌, ◌-◌, ◌*◌, ◌/◌, ◌<◌, ◌≤◌, ◌∷◌, [], ◌^◌, map, length, replicate, string_bytes, All, IfOk, OnOk, Some, None};
 ghost use Rattle.elf_image.specs.Layout.{IsPlaced};
-ghost use Rattle.lx_start.specs.Stack.{name_of, arguments_of, stack_end};
-ghost use Rattle.lx_start.specs.Start as spec;
+ghost use Rattle.lx_machine.specs.Stack.{arguments_of, name_of, stack_end};
+ghost use Rattle.lx_machine.specs.Start.{end_page, first_descriptor, first_file, first_files, first_thread, last_end, rights_of, start, with_return_page, with_segment, with_segments};
 ghost use Rattle.lx_start.specs.FirstStack.{IsInStack};
 ghost use Rattle.lx_start.specs.Parts.{with_parts, pages_with, space_with, regs_with, state_with};
 ghost use Rattle.lx_memory.specs.Ranges.{mapped, anew, IsOnEach};
-ghost use Rattle.lx_machine.specs.Signals.{default_action};
+ghost use Rattle.lx_machine.specs.Signal.{default_action};
 
 use crate::stack::{FirstStack, STACK_END, STACK_PAGES, first_stack};
 use a64_model::regs::Regs;
@@ -23,9 +23,9 @@ use lx_machine::space::Space;
 use lx_machine::state::{LinuxState, THREADS};
 use lx_machine::threads::{AltStack, Life, LxThread};
 use lx_memory::Memory;
+use page_ranges::Rights;
 use std::alloc::Global;
 use std::array::from_fn;
-use vm_areas::Rights;
 
 /// The bytes of a page.
 const PAGE: u64 = 4096;
@@ -55,7 +55,7 @@ const RETURN_CODE: [u8; 8] = [0x68, 0x11, 0x80, 0xd2, 0x01, 0x00, 0x00, 0xd4];
 
 /// The rights of a segment's pages: code can be read, and so can what can be written.
 fn rights_of(segment: &Segment) -> Rights
-    ensures { result ≡ spec.rights_of segment.now }
+    ensures { result ≡ rights_of segment.now }
 {
     Rights {
         read: segment.read || segment.write || segment.execute,
@@ -67,7 +67,7 @@ fn rights_of(segment: &Segment) -> Rights
 /// The page behind the last one of a segment.
 fn end_page(segment: &Segment) -> u64
     requires { IsPlaced segment.now }
-    ensures same { result ≡ spec.end_page segment.now }
+    ensures same { result ≡ end_page segment.now }
     ensures high { result ≤ 0x7f0000000 }
 {
     (segment.at + segment.size + (PAGE - 1)) / PAGE
@@ -76,7 +76,7 @@ fn end_page(segment: &Segment) -> u64
 /// The page behind the highest segment.
 fn last_end(segments: &[Segment]) -> u64
     requires { All IsPlaced segments.now }
-    ensures same { result ≡ spec.last_end segments.now }
+    ensures same { result ≡ last_end segments.now }
     ensures high { result ≤ 0x7f0000000 }
 {
     match segments {
@@ -96,7 +96,7 @@ fn map_pages(memory: &mut Memory, first: u64, count: u64, rights: Rights) -> Res
 /// A segment's pages, with its bytes.
 fn add_segment(memory: &mut Memory, segment: &Segment) -> Result<(), NoMemory>
     requires { IsPlaced segment.now }
-    ensures { OnOk result (memory.new ≡ spec.with_segment memory.old segment.now) }
+    ensures { OnOk result (memory.new ≡ with_segment memory.old segment.now) }
 {
     let first = segment.at / PAGE;
     map_pages(memory, first, end_page(segment) - first, rights_of(segment))?;
@@ -107,7 +107,7 @@ fn add_segment(memory: &mut Memory, segment: &Segment) -> Result<(), NoMemory>
 /// The pages of each segment.
 fn add_segments(memory: &mut Memory, segments: &[Segment]) -> Result<(), NoMemory>
     requires { All IsPlaced segments.now }
-    ensures { OnOk result (memory.new ≡ spec.with_segments memory.old segments.now) }
+    ensures { OnOk result (memory.new ≡ with_segments memory.old segments.now) }
 {
     match segments {
         [] => Ok(()),
@@ -136,7 +136,7 @@ fn add_stack(memory: &mut Memory, stack: &FirstStack) -> Result<(), NoMemory>
 
 /// The page above the stack, with the return code.
 fn add_return_page(memory: &mut Memory) -> Result<(), NoMemory>
-    ensures { OnOk result (memory.new ≡ spec.with_return_page memory.old) }
+    ensures { OnOk result (memory.new ≡ with_return_page memory.old) }
 {
     map_pages(memory, STACK_END / PAGE, 1, CODE_RIGHTS)?;
     memory.store(STACK_END, &RETURN_CODE);
@@ -175,7 +175,7 @@ fn first_space(alloc: Global, image: &Image, stack: &FirstStack) -> Result<Space
 
 /// The descriptors of the input and the two consoles.
 fn first_descriptors() -> [Option<Descriptor>; DESCRIPTORS]
-    ensures { result ≡ spec.first_descriptor 0 ∷ spec.first_descriptor 1 ∷ spec.first_descriptor 2 ∷ replicate 253 None }
+    ensures { result ≡ first_descriptor 0 ∷ first_descriptor 1 ∷ first_descriptor 2 ∷ replicate 253 None }
 {
     let mut descriptors = [None; DESCRIPTORS];
     descriptors[0] = descriptor(0);
@@ -186,7 +186,7 @@ fn first_descriptors() -> [Option<Descriptor>; DESCRIPTORS]
 
 /// A descriptor of this open file.
 fn descriptor(file: u32) -> Option<Descriptor>
-    ensures { result ≡ spec.first_descriptor file }
+    ensures { result ≡ first_descriptor file }
 {
     Some(Descriptor {
         file,
@@ -196,7 +196,7 @@ fn descriptor(file: u32) -> Option<Descriptor>
 
 /// An open file that no call holds.
 fn open_file(kind: FileKind) -> Option<OpenFile>
-    ensures { result ≡ spec.first_file kind }
+    ensures { result ≡ first_file kind }
 {
     Some(OpenFile {
         kind,
@@ -207,7 +207,7 @@ fn open_file(kind: FileKind) -> Option<OpenFile>
 
 /// The open files of the input and the two consoles.
 fn first_open_files() -> [Option<OpenFile>; OPEN_FILES]
-    ensures { result ≡ spec.first_file FileKind.Input ∷ spec.first_file (FileKind.Console LxSide.Out) ∷ spec.first_file (FileKind.Console LxSide.Err) ∷ replicate 285 None }
+    ensures { result ≡ first_file FileKind.Input ∷ first_file (FileKind.Console LxSide.Out) ∷ first_file (FileKind.Console LxSide.Err) ∷ replicate 285 None }
 {
     let mut files = [None; OPEN_FILES];
     files[0] = open_file(FileKind::Input);
@@ -239,7 +239,7 @@ fn no_epolls() -> [Option<Interests>; EPOLLS]
 
 /// The first files: the input and the two consoles, on descriptors 0, 1 and 2.
 fn first_files(alloc: Global, input: Vec<u8>) -> Result<Files, NoMemory>
-    ensures { IfOk result (λ files. files ≡ spec.first_files input.items) }
+    ensures { IfOk result (λ files. files ≡ first_files input.items) }
 {
     let out = Room::make(alloc)?;
     let err = Room::make(alloc)?;
@@ -272,7 +272,7 @@ fn first_regs(sp: u64, pc: u64) -> Regs
 
 /// The first thread.
 fn first_thread(regs: Regs) -> LxThread
-    ensures { result ≡ spec.first_thread regs }
+    ensures { result ≡ first_thread regs }
 {
     LxThread {
         tid: FIRST_TID,
@@ -382,7 +382,7 @@ pub fn first_state(
     seed: u64,
 ) -> Result<LinuxState, NoMemory>
     requires { All IsPlaced image.now.segments }
-    ensures { IfOk result (λ state. state ≡ spec.start image.now (name_of (map string_bytes words.now)) (arguments_of (map string_bytes words.now)) input.items seed) }
+    ensures { IfOk result (λ state. state ≡ start image.now (name_of (map string_bytes words.now)) (arguments_of (map string_bytes words.now)) input.items seed) }
 {
     let stack = first_stack(alloc, image, name_in(words), arguments_in(words), seed)?;
     state_with(alloc, image, &stack, input)

@@ -4,7 +4,7 @@ use Rattle.std.proofs.lemmas.List.{take_rest}
 use Rattle.places.specs.Places.{number_at}
 use Rattle.lx_machine.specs.Pieces.{piece}
 use Rattle.lx_machine.specs.declared.calls.Piece.{Piece}
-use Rattle.lx_transfers.specs.Vectors.{vectors}
+use Rattle.lx_machine.specs.Readv.{vectors}
 
 -- the first vector of some, and those that are left
 pub vectors_first : (n : ℕ) (bytes : List ℕ) → 16 ≤ length bytes → vectors (suc n) bytes ≡ piece (number_at bytes 0 8) (number_at bytes 8 8) ∷ vectors n (drop 16 bytes)

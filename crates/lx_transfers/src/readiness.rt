@@ -1,8 +1,11 @@
 //! Whether a transfer can move now, or has to wait (read(2), write(2), pipe(7), eventfd(2)).
 ghost use Rattle.std.specs.Prelude.{◌≡◌, ◌+◌, ◌^◌, nat_lt, is_some, length, if◌then◌else◌, ◌||◌};
-ghost use Rattle.lx_machine.specs.Lists.{bind, at_place};
+ghost use Rattle.lx_machine.specs.Lists.{at_place, bind};
 ghost use Rattle.lx_machine.specs.declared.files.FileKind.TheVariants as kind;
-ghost use Rattle.lx_transfers.specs.Transfers.{waits, read_pipe, read_counter, read_move, write_waits, write_pipe, write_console, write_counter, write_move, move_file, moved, can_move};
+ghost use Rattle.lx_machine.specs.Move.{can_transfer, move_file, transferred};
+ghost use Rattle.lx_machine.specs.Read.{read_counter, read_move, read_pipe};
+ghost use Rattle.lx_machine.specs.Transfers.{waits};
+ghost use Rattle.lx_machine.specs.Write.{write_console, write_counter, write_move, write_pipe, write_waits};
 
 use crate::reads::total;
 use crate::transfers::is_read;
@@ -156,7 +159,7 @@ fn can_move_file(files: &Files, call: &LxCall, file: u32, f: OpenFile) -> bool
 
 /// Whether a transfer can move bytes or end now (read(2), write(2)): else it has to wait.
 pub fn can_move(files: &Files, call: &LxCall) -> bool
-    ensures { result ≡ can_move files.now call.now }
+    ensures { result ≡ can_transfer files.now call.now }
 {
     let Some(file) = call.held else {
         return false;

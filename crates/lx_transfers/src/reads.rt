@@ -1,12 +1,14 @@
 //! The bytes of read(2) and readv(2): out of a pipe, the input or a counter (pipe(7), eventfd(2)).
 ghost use Rattle.std.specs.Prelude.{◌≡◌, ◌<◌, ◌-◌, ◌^◌, min, [], Some, IfOk, OnErr, OnOk, length, take, drop, slice_set};
 ghost use Rattle.places.specs.Places.{bytes_of};
-ghost use Rattle.lx_machine.specs.Lists.{bind, at_place};
+ghost use Rattle.lx_machine.specs.Lists.{at_place, bind};
 ghost use Rattle.lx_machine.specs.Pieces.{total};
 ghost use Rattle.std.specs.Option.{option_map};
 ghost use Rattle.lx_machine.specs.declared.files.FileKind.TheVariants as kind;
-ghost use Rattle.lx_files.specs.Files.{held_in};
-ghost use Rattle.lx_transfers.specs.Transfers.{outcome, reads_bytes, read_pipe, counted, counted_down, with_counter, read_counter, read_move, Makes};
+ghost use Rattle.lx_machine.specs.Files.{held_in};
+ghost use Rattle.lx_machine.specs.Move.{MakesTransfer};
+ghost use Rattle.lx_machine.specs.Read.{counted, counted_down, read_counter, read_move, read_pipe, reads_bytes, with_counter};
+ghost use Rattle.lx_machine.specs.Transfers.{transfer_outcome};
 
 use crate::transfers::{end_refused, end_with, finish, set_counter, wait};
 use byteorder::{ByteOrder, LittleEndian};
@@ -58,7 +60,7 @@ fn take_input(alloc: Global, input: &mut Input, pieces: &[Piece]) -> Result<Byte
 
 /// A read that ends with these bytes.
 fn end_with_bytes(files: &mut Files, call: &mut LxCall, file: u32, bytes: Bytes)
-    ensures { reads_bytes files.old call.old file bytes ≡ Some (outcome files.new call.new) }
+    ensures { reads_bytes files.old call.old file bytes ≡ Some (transfer_outcome files.new call.new) }
 {
     call.result = Some(bytes.as_slice().len() as u64);
     call.bytes = bytes;
@@ -73,7 +75,7 @@ fn read_nothing(
     f: OpenFile,
     pipe: u32,
 ) -> Result<bool, LxRefusal>
-    ensures { Makes (read_pipe files.old call.old file f pipe []) files.old call.old files.new call.new result }
+    ensures { MakesTransfer (read_pipe files.old call.old file f pipe []) files.old call.old files.new call.new result }
 {
     if has_writer(files, pipe) {
         return wait(files, call, file, f);
@@ -127,7 +129,7 @@ fn read_from_pipe(
     f: OpenFile,
     pipe: u32,
 ) -> Result<bool, LxRefusal>
-    ensures { Makes (bind (at_place files.old.pipes pipe) (read_pipe files.old call.old file f pipe)) files.old call.old files.new call.new result }
+    ensures { MakesTransfer (bind (at_place files.old.pipes pipe) (read_pipe files.old call.old file f pipe)) files.old call.old files.new call.new result }
 {
     let Some(Some(room)) = files.pipes.get(pipe as usize) else {
         return Err(LxRefusal::NoStep);
@@ -150,7 +152,7 @@ fn read_pipe(
     f: OpenFile,
     pipe: u32,
 ) -> Result<bool, LxRefusal>
-    ensures { Makes (read_move files.old call.old file f (kind.PipeRead pipe)) files.old call.old files.new call.new result }
+    ensures { MakesTransfer (read_move files.old call.old file f (kind.PipeRead pipe)) files.old call.old files.new call.new result }
 {
     if total(call.pieces.as_slice()) == 0 {
         end_with(files, call, file, 0);
@@ -167,7 +169,7 @@ fn read_input(
     file: u32,
     f: OpenFile,
 ) -> Result<bool, LxRefusal>
-    ensures { Makes (read_move files.old call.old file f kind.Input) files.old call.old files.new call.new result }
+    ensures { MakesTransfer (read_move files.old call.old file f kind.Input) files.old call.old files.new call.new result }
 {
     if total(call.pieces.as_slice()) == 0 {
         end_with(files, call, file, 0);
@@ -206,7 +208,7 @@ fn count_down(
     counter: Counter,
 ) -> Result<(), NoMemory>
     requires { 0 < counter.value }
-    ensures ok { OnOk result (reads_bytes (with_counter files.old number (counted_down counter)) call.old file (bytes_of (counted counter) 8) ≡ Some (outcome files.new call.new)) }
+    ensures ok { OnOk result (reads_bytes (with_counter files.old number (counted_down counter)) call.old file (bytes_of (counted counter) 8) ≡ Some (transfer_outcome files.new call.new)) }
     ensures err { OnErr result ((files.new ≡ files.old) × (call.new ≡ call.old)) }
 {
     let taken = counted(counter);
@@ -230,7 +232,7 @@ fn read_count(
     number: u32,
     counter: Counter,
 ) -> Result<bool, LxRefusal>
-    ensures { Makes (read_counter files.old call.old file f number counter) files.old call.old files.new call.new result }
+    ensures { MakesTransfer (read_counter files.old call.old file f number counter) files.old call.old files.new call.new result }
 {
     if total(call.pieces.as_slice()) < 8 {
         end_refused(files, call, file, LinuxErrno::EINVAL);
@@ -252,7 +254,7 @@ fn read_counter(
     f: OpenFile,
     number: u32,
 ) -> Result<bool, LxRefusal>
-    ensures { Makes (read_move files.old call.old file f (kind.Counter number)) files.old call.old files.new call.new result }
+    ensures { MakesTransfer (read_move files.old call.old file f (kind.Counter number)) files.old call.old files.new call.new result }
 {
     match place_at(&files.counters, number) {
         Some(counter) => read_count(alloc, files, call, file, f, number, counter),
@@ -268,7 +270,7 @@ pub(crate) fn read_move(
     file: u32,
     f: OpenFile,
 ) -> Result<bool, LxRefusal>
-    ensures { Makes (read_move files.old call.old file f f.kind) files.old call.old files.new call.new result }
+    ensures { MakesTransfer (read_move files.old call.old file f f.kind) files.old call.old files.new call.new result }
 {
     match f.kind {
         FileKind::Input => read_input(alloc, files, call, file, f),

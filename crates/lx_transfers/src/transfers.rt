@@ -1,17 +1,18 @@
 //! The steps of read(2), write(2), readv(2) and writev(2) that hold an open file, give it back, and move bytes.
 ghost use Rattle.std.specs.Prelude.{◌≡◌, true, false, Some, None, IfErr, OnErr, OnOk};
-ghost use Rattle.lx_transfers.specs.Transfers.{outcome, is_read, direction_refusal, hold_file, held, is_held_most, has_most_holds, lets_go, dropped, with_counter, waits, ends_with, ends_refused, move_file, moved, Makes, interrupted_answer, interrupted, may_restart, has_room_for_broken_pipe, with_broken_pipe};
+ghost use Rattle.lx_machine.specs.Move.{MakesTransfer, interrupted, interrupted_answer, may_restart, move_file, transferred};
+ghost use Rattle.lx_machine.specs.Read.{with_counter};
+ghost use Rattle.lx_machine.specs.Transfers.{direction_refusal, ends_refused, ends_with, gives_back, has_most_holds, held, hold_file, hold_given_back, is_held_most, is_read, transfer_outcome, waits};
 
 use crate::reads::read_move;
 use crate::writes::write_move;
-use linux_abi::{Call, LinuxErrno, LinuxSig, answer};
+use linux_abi::{Call, LinuxErrno, answer};
 use lx_files::files::{give_back, hold_once, place_at, set_place};
 use lx_files::interests::arm_on;
 use lx_machine::buffer::NoMemory;
 use lx_machine::calls::LxCall;
 use lx_machine::files::{Counter, FileKind, Files, OpenFile};
 use lx_machine::refusal::LxRefusal;
-use lx_machine::signals::{Origin, Pending, SigInfo};
 use std::alloc::Global;
 
 /// Whether the call reads.
@@ -42,7 +43,7 @@ fn direction_refusal(reading: bool, kind: FileKind) -> Option<LinuxErrno>
 
 /// Holds this open file, or refuses the call.
 fn hold_file(files: &mut Files, call: &mut LxCall, file: u32, f: OpenFile) -> Result<(), NoMemory>
-    ensures ok { OnOk result (outcome files.new call.new ≡ hold_file files.old call.old file (Some f)) }
+    ensures ok { OnOk result (transfer_outcome files.new call.new ≡ hold_file files.old call.old file (Some f)) }
     ensures err { OnErr result ((files.new ≡ files.old) × (call.new ≡ call.old)) }
     ensures full { OnErr result (is_held_most (Some f) ≡ true) }
 {
@@ -59,7 +60,7 @@ fn hold_file(files: &mut Files, call: &mut LxCall, file: u32, f: OpenFile) -> Re
 /// Holds the open file of the first argument, or refuses the call (read(2), write(2)). `NoMemory`: one more hold of the
 /// file can't be counted; then nothing changes.
 pub fn hold(files: &mut Files, call: &mut LxCall) -> Result<(), NoMemory>
-    ensures ok { OnOk result (outcome files.new call.new ≡ held files.old call.old) }
+    ensures ok { OnOk result (transfer_outcome files.new call.new ≡ held files.old call.old) }
     ensures err { OnErr result ((files.new ≡ files.old) × (call.new ≡ call.old)) }
     ensures full { OnErr result (has_most_holds files.old call.old ≡ true) }
 {
@@ -76,16 +77,16 @@ pub fn hold(files: &mut Files, call: &mut LxCall) -> Result<(), NoMemory>
 
 /// The call gives this open file back.
 pub(crate) fn finish(files: &mut Files, call: &mut LxCall, file: u32)
-    ensures { outcome files.new call.new ≡ lets_go files.old call.old file }
+    ensures { transfer_outcome files.new call.new ≡ gives_back files.old call.old file }
 {
     give_back(files, file);
     call.held = None;
 }
 
 /// The call gives its open file back. Not enabled: it holds none.
-pub fn let_go(files: &mut Files, call: &mut LxCall) -> Result<(), LxRefusal>
-    ensures ok { OnOk result (dropped files.old call.old ≡ Some (outcome files.new call.new)) }
-    ensures err { OnErr result (dropped files.old call.old ≡ None) }
+pub fn drop_hold(files: &mut Files, call: &mut LxCall) -> Result<(), LxRefusal>
+    ensures ok { OnOk result (hold_given_back files.old call.old ≡ Some (transfer_outcome files.new call.new)) }
+    ensures err { OnErr result (hold_given_back files.old call.old ≡ None) }
     ensures kept { OnErr result ((files.new ≡ files.old) × (call.new ≡ call.old)) }
     ensures no_step { IfErr result (λ e. e ≡ LxRefusal.NoStep) }
 {
@@ -108,7 +109,7 @@ pub(crate) fn set_counter(files: &mut Files, number: u32, counter: Counter)
 
 /// A move that ends with this number.
 pub(crate) fn end_with(files: &mut Files, call: &mut LxCall, file: u32, n: u64)
-    ensures { ends_with files.old call.old file n ≡ Some (outcome files.new call.new) }
+    ensures { ends_with files.old call.old file n ≡ Some (transfer_outcome files.new call.new) }
 {
     call.answer(n);
     finish(files, call, file);
@@ -116,7 +117,7 @@ pub(crate) fn end_with(files: &mut Files, call: &mut LxCall, file: u32, n: u64)
 
 /// A move that ends with this error.
 pub(crate) fn end_refused(files: &mut Files, call: &mut LxCall, file: u32, e: LinuxErrno)
-    ensures { ends_refused files.old call.old file e ≡ Some (outcome files.new call.new) }
+    ensures { ends_refused files.old call.old file e ≡ Some (transfer_outcome files.new call.new) }
 {
     call.refuse(e);
     finish(files, call, file);
@@ -129,7 +130,7 @@ pub(crate) fn wait(
     file: u32,
     f: OpenFile,
 ) -> Result<bool, LxRefusal>
-    ensures { Makes (waits files.old call.old file f) files.old call.old files.new call.new result }
+    ensures { MakesTransfer (waits files.old call.old file f) files.old call.old files.new call.new result }
 {
     if !f.nonblocking {
         return Err(LxRefusal::NoStep);
@@ -146,7 +147,7 @@ fn move_file(
     file: u32,
     f: OpenFile,
 ) -> Result<bool, LxRefusal>
-    ensures { Makes (move_file files.old call.old file f) files.old call.old files.new call.new result }
+    ensures { MakesTransfer (move_file files.old call.old file f) files.old call.old files.new call.new result }
 {
     if is_read(call) {
         read_move(alloc, files, call, file, f)
@@ -159,7 +160,7 @@ fn move_file(
 /// gets SIGPIPE. Not enabled: it has to wait, or holds no open file that bytes move to or from. Then, and where memory is
 /// wanting, nothing changes.
 pub fn move_bytes(alloc: Global, files: &mut Files, call: &mut LxCall) -> Result<bool, LxRefusal>
-    ensures { Makes (moved files.old call.old) files.old call.old files.new call.new result }
+    ensures { MakesTransfer (transferred files.old call.old) files.old call.old files.new call.new result }
 {
     let Some(file) = call.held else {
         return Err(LxRefusal::NoStep);
@@ -184,7 +185,7 @@ fn interrupted_answer(call: &LxCall) -> u64
 /// Interrupt: a signal ends the wait of a transfer (signal(7)), which answers what it has moved before, and else EINTR. Not
 /// enabled: it holds no open file; then nothing changes.
 pub fn interrupt(files: &mut Files, call: &mut LxCall) -> Result<(), LxRefusal>
-    ensures ok { OnOk result (interrupted files.old call.old ≡ Some (outcome files.new call.new)) }
+    ensures ok { OnOk result (interrupted files.old call.old ≡ Some (transfer_outcome files.new call.new)) }
     ensures err { OnErr result (interrupted files.old call.old ≡ None) }
     ensures kept { OnErr result ((files.new ≡ files.old) × (call.new ≡ call.old)) }
 {
@@ -201,31 +202,4 @@ pub fn may_restart(call: &LxCall) -> bool
     ensures { result ≡ may_restart call.now }
 {
     call.moved == 0
-}
-
-/// Whether SIGPIPE can become pending: it is ignored or pending already, or there is room for it.
-pub fn has_room_for_broken_pipe(pending: &Pending, is_ignored: bool) -> bool
-    ensures { result ≡ has_room_for_broken_pipe is_ignored pending.now }
-{
-    is_ignored || pending.has(LinuxSig::SIGPIPE) || !pending.is_full()
-}
-
-/// SIGPIPE becomes pending for a thread whose pipe broke (write(2)), unless it is ignored or pending already. `NoMemory`:
-/// as many signals are pending as can be; then nothing changes.
-pub fn send_broken_pipe(pending: &mut Pending, is_ignored: bool) -> Result<(), NoMemory>
-    ensures ok { OnOk result (pending.new ≡ with_broken_pipe is_ignored pending.old) }
-    ensures err { OnErr result (pending.new ≡ pending.old) }
-    ensures full { OnErr result (has_room_for_broken_pipe is_ignored pending.old ≡ false) }
-{
-    if is_ignored || pending.has(LinuxSig::SIGPIPE) {
-        return Ok(());
-    }
-    pending.push(SigInfo {
-        signal: LinuxSig::SIGPIPE,
-        code: 0,
-        origin: Origin::Sender {
-            pid: 1000,
-            uid: 1000,
-        },
-    })
 }

@@ -1,8 +1,8 @@
 //! Vectors (readv(2), struct iovec), and the pieces of a transfer.
 ghost use Rattle.std.specs.Prelude.{◌≡◌, ◌≤◌, ◌+◌, IfOk, length};
 ghost use Rattle.places.specs.Places.{number_at};
-ghost use Rattle.lx_machine.specs.Pieces.{piece, clipped};
-ghost use Rattle.lx_transfers.specs.Vectors.{vectors, has_negative};
+ghost use Rattle.lx_machine.specs.Pieces.{clipped, piece};
+ghost use Rattle.lx_machine.specs.Readv.{has_negative, vectors};
 
 use byteorder::{ByteOrder, LittleEndian};
 use lx_machine::buffer::NoMemory;

@@ -1,10 +1,14 @@
 //! The bytes of write(2) and writev(2): into a pipe, a console or a counter (pipe(7), eventfd(2)).
 ghost use Rattle.std.specs.Prelude.{◌≡◌, ◌≤◌, ◌<◌, ◌+◌, ◌-◌, ◌++◌, ◌^◌, nat_le, nat_lt, true, if◌then◌else◌, Some, IfOk, IfErr, OnErr, OnOk, length, slice_set};
-ghost use Rattle.lx_machine.specs.Lists.{bind, at_place};
+ghost use Rattle.lx_machine.specs.Lists.{at_place, bind};
 ghost use Rattle.std.specs.Option.{option_map};
 ghost use Rattle.lx_machine.specs.declared.files.FileKind.TheVariants as kind;
-ghost use Rattle.lx_files.specs.Files.{held_in};
-ghost use Rattle.lx_transfers.specs.Transfers.{outcome, waits, ends_with, with_counter, console_holds, count, goes_in, wrote, write_waits, breaks, write_pipe, into_console, write_console, write_counter, write_move, Makes};
+ghost use Rattle.lx_machine.specs.Files.{held_in};
+ghost use Rattle.lx_machine.specs.Interests.{side_holds};
+ghost use Rattle.lx_machine.specs.Move.{MakesTransfer};
+ghost use Rattle.lx_machine.specs.Read.{with_counter};
+ghost use Rattle.lx_machine.specs.Transfers.{ends_with, transfer_outcome, waits};
+ghost use Rattle.lx_machine.specs.Write.{breaks, count, goes_in, into_console, write_console, write_counter, write_move, write_pipe, write_waits, wrote};
 
 use crate::transfers::{end_refused, end_with, set_counter, wait};
 use crate::vectors::number;
@@ -46,7 +50,7 @@ pub(crate) fn goes_in(call: &LxCall, room: &Room) -> usize
 /// A write whose first n bytes have gone in, so that it has moved so many in all.
 fn wrote(files: &mut Files, call: &mut LxCall, file: u32, f: OpenFile, n: usize, moved: u64)
     requires { moved ≡ call.old.moved + n }
-    ensures { wrote files.old call.old file f n ≡ Some (outcome files.new call.new) }
+    ensures { wrote files.old call.old file f n ≡ Some (transfer_outcome files.new call.new) }
 {
     if f.nonblocking || call.bytes.as_slice().len() <= n {
         end_with(files, call, file, moved);
@@ -63,7 +67,7 @@ fn write_nothing(
     file: u32,
     f: OpenFile,
 ) -> Result<bool, LxRefusal>
-    ensures { Makes (write_waits files.old call.old file f) files.old call.old files.new call.new result }
+    ensures { MakesTransfer (write_waits files.old call.old file f) files.old call.old files.new call.new result }
 {
     if f.nonblocking && call.moved > 0 {
         let moved = call.moved;
@@ -75,7 +79,7 @@ fn write_nothing(
 
 /// A write to a pipe without a reader.
 fn break_pipe(files: &mut Files, call: &mut LxCall, file: u32)
-    ensures { breaks files.old call.old file ≡ Some record (outcome files.new call.new) { is_broken = true } }
+    ensures { breaks files.old call.old file ≡ Some record (transfer_outcome files.new call.new) { is_broken = true } }
 {
     let n = if call.moved > 0 {
         call.moved
@@ -126,7 +130,7 @@ fn write_to_pipe(
     f: OpenFile,
     pipe: u32,
 ) -> Result<bool, LxRefusal>
-    ensures { Makes (bind (at_place files.old.pipes pipe) (write_pipe files.old call.old file f pipe)) files.old call.old files.new call.new result }
+    ensures { MakesTransfer (bind (at_place files.old.pipes pipe) (write_pipe files.old call.old file f pipe)) files.old call.old files.new call.new result }
 {
     let Some(Some(room)) = files.pipes.get(pipe as usize) else {
         return Err(LxRefusal::NoStep);
@@ -154,7 +158,7 @@ fn write_pipe(
     f: OpenFile,
     pipe: u32,
 ) -> Result<bool, LxRefusal>
-    ensures { Makes (write_move files.old call.old file f (kind.PipeWrite pipe)) files.old call.old files.new call.new result }
+    ensures { MakesTransfer (write_move files.old call.old file f (kind.PipeWrite pipe)) files.old call.old files.new call.new result }
 {
     if is_at_most(call, 0) {
         end_with(files, call, file, 0);
@@ -177,8 +181,8 @@ fn put(room: &mut Room, ever: &mut Bytes, bytes: &[u8]) -> Result<(), NoMemory>
 
 /// How many bytes now go into a console.
 pub(crate) fn goes_into_console(files: &Files, call: &LxCall, which: LxSide) -> usize
-    ensures value { result ≡ goes_in call.now (length (console_holds files.now which)) }
-    ensures fits { 0 < result → length (console_holds files.now which) + result ≤ 65536 }
+    ensures value { result ≡ goes_in call.now (length (side_holds files.now which)) }
+    ensures fits { 0 < result → length (side_holds files.now which) + result ≤ 65536 }
     ensures most { result ≤ length call.now.bytes }
 {
     match which {
@@ -189,7 +193,7 @@ pub(crate) fn goes_into_console(files: &Files, call: &LxCall, which: LxSide) -> 
 
 /// Bytes go into a console.
 fn put_into_console(files: &mut Files, which: LxSide, bytes: &[u8]) -> Result<(), NoMemory>
-    requires { length (console_holds files.old which) + length bytes.now ≤ 65536 }
+    requires { length (side_holds files.old which) + length bytes.now ≤ 65536 }
     ensures ok { OnOk result (files.new ≡ into_console files.old which bytes.now) }
     ensures err { OnErr result (files.new ≡ files.old) }
 {
@@ -207,7 +211,7 @@ fn write_to_console(
     f: OpenFile,
     which: LxSide,
 ) -> Result<bool, LxRefusal>
-    ensures { Makes (write_console files.old call.old file f which) files.old call.old files.new call.new result }
+    ensures { MakesTransfer (write_console files.old call.old file f which) files.old call.old files.new call.new result }
 {
     let n = goes_into_console(files, call, which);
     if n == 0 {
@@ -227,7 +231,7 @@ fn write_console(
     f: OpenFile,
     which: LxSide,
 ) -> Result<bool, LxRefusal>
-    ensures { Makes (write_move files.old call.old file f (kind.Console which)) files.old call.old files.new call.new result }
+    ensures { MakesTransfer (write_move files.old call.old file f (kind.Console which)) files.old call.old files.new call.new result }
 {
     if is_at_most(call, 0) {
         end_with(files, call, file, 0);
@@ -246,7 +250,7 @@ fn add_to_counter(
     counter: Counter,
     added: u64,
 ) -> Result<bool, LxRefusal>
-    ensures { Makes (if nat_lt (2 ^ 64 - 2) (counter.value + added) then waits files.old call.old file f else ends_with (with_counter files.old number record counter { value = counter.value + added }) call.old file 8) files.old call.old files.new call.new result }
+    ensures { MakesTransfer (if nat_lt (2 ^ 64 - 2) (counter.value + added) then waits files.old call.old file f else ends_with (with_counter files.old number record counter { value = counter.value + added }) call.old file 8) files.old call.old files.new call.new result }
 {
     match counter.value.checked_add(added) {
         Some(value) if value < u64::MAX => {
@@ -271,7 +275,7 @@ fn write_count(
     at: u32,
     counter: Counter,
 ) -> Result<bool, LxRefusal>
-    ensures { Makes (write_counter files.old call.old file f at counter) files.old call.old files.new call.new result }
+    ensures { MakesTransfer (write_counter files.old call.old file f at counter) files.old call.old files.new call.new result }
 {
     let bytes = call.bytes.as_slice();
     if bytes.len() < 8 {
@@ -294,7 +298,7 @@ fn write_counter(
     f: OpenFile,
     at: u32,
 ) -> Result<bool, LxRefusal>
-    ensures { Makes (write_move files.old call.old file f (kind.Counter at)) files.old call.old files.new call.new result }
+    ensures { MakesTransfer (write_move files.old call.old file f (kind.Counter at)) files.old call.old files.new call.new result }
 {
     match place_at(&files.counters, at) {
         Some(counter) => write_count(files, call, file, f, at, counter),
@@ -309,7 +313,7 @@ pub(crate) fn write_move(
     file: u32,
     f: OpenFile,
 ) -> Result<bool, LxRefusal>
-    ensures { Makes (write_move files.old call.old file f f.kind) files.old call.old files.new call.new result }
+    ensures { MakesTransfer (write_move files.old call.old file f f.kind) files.old call.old files.new call.new result }
 {
     match f.kind {
         FileKind::Console(which) => write_console(files, call, file, f, which),

@@ -1,7 +1,7 @@
 use Rattle.std.proofs.Common.{take, ap, sym, ◌∙◌}
 use Rattle.places.specs.Places.{number_of}
 use Rattle.places.proofs.Numbers.{take-bytes_of}
-use Rattle.guest_mem.specs.Swaps.{outcome}
+use Rattle.a64_model.specs.Swaps.{outcome}
 use Rattle.lx_instructions.proofs.Exchanged.{exchanged}
 use Rattle.lx_instructions.proofs.access.exchange.Goals as goal
 

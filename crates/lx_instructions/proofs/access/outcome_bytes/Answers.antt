@@ -1,7 +1,7 @@
 use Rattle.std.proofs.Common.{ℕ, ap, ◌∙◌, arith}
 use Rattle.places.specs.Places.{bytes_of}
 use Rattle.places.proofs.Numbers.{bytes_of-mod}
-use Rattle.guest_mem.specs.Swaps.{outcome}
+use Rattle.a64_model.specs.Swaps.{outcome}
 use Rattle.lx_instructions.proofs.access.outcome_bytes.Goals as goal
 
 pub returns : goal.returns

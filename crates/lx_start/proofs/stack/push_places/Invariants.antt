@@ -1,5 +1,5 @@
 use Rattle.std.proofs.Common.{◌≡◌, ◌+◌, ◌++◌, length, map, take, string_bytes}
-use Rattle.lx_start.specs.Stack.{ended_texts, argument_places}
+use Rattle.lx_machine.specs.Stack.{argument_places, ended_texts}
 use Rattle.lx_start.proofs.stack.push_places.Given as goal
 
 abbrev pub invariant-loop-text : goal.invariant-loop-text

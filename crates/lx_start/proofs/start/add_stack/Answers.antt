@@ -1,7 +1,7 @@
 use Rattle.std.proofs.Common.{length, subst, sym, arith}
 use Rattle.page_store.specs.Pages.{Pages}
 use Rattle.lx_memory.specs.Bytes.{IsMapped}
-use Rattle.lx_start.specs.Start.{stack_rights}
+use Rattle.lx_machine.specs.Start.{stack_rights}
 use Rattle.lx_start.proofs.Mapped.{mapped_anew, mapped_stays}
 use Rattle.lx_start.proofs.start.add_stack.Goals as goal
 

@@ -1,6 +1,6 @@
 use Rattle.std.proofs.Common.{◌∷◌, replicate, Some, None, ap, ◌∙◌}
 use Rattle.lx_machine.specs.declared.threads.LxThread.{LxThread}
-use Rattle.lx_start.specs.Start.{first_thread}
+use Rattle.lx_machine.specs.Start.{first_thread}
 use Rattle.lx_start.proofs.start.state_with.Goals as goal
 
 pub returns : goal.returns

@@ -1,5 +1,5 @@
 use Rattle.std.proofs.Common.{◌≡◌, ◌++◌, ◌-◌}
-use Rattle.lx_transfers.specs.Vectors.{vectors}
+use Rattle.lx_machine.specs.Readv.{vectors}
 use Rattle.lx_transfers.proofs.vectors.read_vectors.Given as goal
 
 -- the vectors so far, and those that are left

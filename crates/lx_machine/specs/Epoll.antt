@@ -1,0 +1,140 @@
+-- Ready, Due and Answer. An interest is named by its open file and the descriptor for which it was added. Source: epoll(7).
+use Rattle.std.proofs.Math.Bool.{not}
+use Rattle.std.specs.List.{list_any}
+use Rattle.std.specs.Option.{option_map}
+use Rattle.std.specs.Prelude.{Bool, List, None, Option, Some, [], bit_and, bit_or, false, if◌then◌else◌, length, nat_le, nat_lt, slice_set, true, ℕ, ◌&&◌, ◌++◌, ◌+◌, ◌-◌, ◌==◌, ◌^◌, ◌||◌, ◌∷◌}
+use Rattle.lx_machine.specs.Files.{has_reader, has_writer, held_in}
+use Rattle.lx_machine.specs.Interests.{is_edge, is_named, is_picked, side_holds, stands}
+use Rattle.lx_machine.specs.Lists.{at_place, bind}
+use Rattle.lx_machine.specs.declared.files.Counter.{Counter}
+use Rattle.lx_machine.specs.declared.files.FileKind.{FileKind}
+use Rattle.lx_machine.specs.declared.files.Files.{Files}
+use Rattle.lx_machine.specs.declared.files.Interest.{Interest}
+use Rattle.lx_machine.specs.declared.files.OpenFile.{OpenFile}
+use Rattle.lx_machine.specs.declared.label.Pick.{Pick}
+use Rattle.places.specs.Places.{bytes_of}
+use Rattle.lx_machine.specs.declared.files.FileKind.TheVariants as kind
+
+-- ---- Ready
+
+-- a bit, where it holds
+abbrev pub if_so : Bool → ℕ → ℕ
+if_so true bit = bit
+if_so false bit = 0
+
+-- a counter has something to read above 0 (EPOLLIN), and takes 1 more below 2^64 - 2 (EPOLLOUT)
+abbrev pub ready_counter : Option Counter → ℕ
+ready_counter None = 0
+ready_counter (Some n) = if_so (nat_lt 0 n.value) 1 + if_so (nat_lt n.value (2 ^ 64 - 2)) 4
+
+-- at least 4096 bytes (PIPE_BUF) are free, in a room of which so many are taken
+abbrev pub has_space : ℕ → Bool
+has_space holds = nat_le 4096 (65536 - holds)
+
+-- what a pipe holds
+abbrev pub pipe_holds : Files → ℕ → List ℕ
+pipe_holds F p = held_in (at_place F.pipes p)
+
+-- the bits that hold of an open file now: EPOLLIN 1, EPOLLOUT 4, EPOLLERR 8 where no reader is left, EPOLLHUP 16 where no
+-- writer is left, as always of the input
+abbrev pub ready : Files → FileKind → ℕ
+ready F kind.Input = if_so (nat_lt 0 (length F.input)) 1 + 16
+ready F (kind.PipeRead p) = if_so (nat_lt 0 (length (pipe_holds F p))) 1 + if_so (not (has_writer F p)) 16
+ready F (kind.PipeWrite p) = if_so (has_space (length (pipe_holds F p))) 4 + if_so (not (has_reader F p)) 8
+ready F (kind.Console which) = if_so (has_space (length (side_holds F which))) 4
+ready F (kind.Counter n) = ready_counter (at_place F.counters n)
+ready F (kind.Epoll n) = 0
+
+abbrev pub ready_at : Files → Option OpenFile → ℕ
+ready_at F None = 0
+ready_at F (Some f) = ready F f.kind
+
+-- ---- Due
+
+-- what an interest is told of: what was asked for, EPOLLERR and EPOLLHUP
+abbrev pub wanted : ℕ → ℕ
+wanted asked = bit_or asked 24
+
+-- the bits that are reported of an open file, where these are asked for
+abbrev pub told : Files → ℕ → ℕ → ℕ
+told F file asked = bit_and (ready_at F (at_place F.files file)) (wanted asked)
+
+abbrev pub reported : Files → Interest → ℕ
+reported F i = told F i.file i.asked
+
+-- the interest is enabled, has something to report, and is armed where it is an edge
+abbrev pub is_due : Files → Interest → Bool
+is_due F i = i.enabled && (i.armed || not (is_edge i)) && not (reported F i == 0)
+
+-- ---- Answer
+
+-- the interest of this name
+abbrev pub named : List Interest → Pick → Option Interest
+named [] p = None
+named (i ∷ is) p = if is_named p.file p.descriptor i then Some i else named is p
+
+abbrev pub is_due_interest : Files → Option Interest → Bool
+is_due_interest F None = false
+is_due_interest F (Some i) = is_due F i
+
+-- each pick names a due interest
+abbrev pub are_due : Files → List Interest → List Pick → Bool
+are_due F is [] = true
+are_due F is (p ∷ ps) = is_due_interest F (named is p) && are_due F is ps
+
+-- no interest is picked twice
+abbrev pub is_same : Pick → Pick → Bool
+is_same p q = (p.file == q.file) && (p.descriptor == q.descriptor)
+
+abbrev pub are_distinct : List Pick → Bool
+are_distinct [] = true
+are_distinct (p ∷ ps) = not (list_any (is_same p) ps) && are_distinct ps
+
+-- an interest that is due and isn't picked
+abbrev pub is_left : Files → List Pick → Interest → Bool
+is_left F picks i = is_due F i && not (is_picked picks i)
+
+-- an answer of an epoll: some due interests, none twice, at most so many, and where fewer than that, all of them
+abbrev pub is_answer : Files → List Interest → ℕ → List Pick → Bool
+is_answer F is most picks =
+    nat_lt 0 (length picks) && nat_le (length picks) most && are_distinct picks && are_due F is picks &&
+    ((length picks == most) || not (list_any (is_left F picks) is))
+
+-- the event of an interest: its bits, 4 bytes that aren't used, and its data
+abbrev pub event_of : Files → Option Interest → List ℕ
+event_of F None = []
+event_of F (Some i) = bytes_of (reported F i) 4 ++ bytes_of 0 4 ++ bytes_of i.«data» 8
+
+abbrev pub events : Files → List Interest → List Pick → List ℕ
+events F is [] = []
+events F is (p ∷ ps) = event_of F (named is p) ++ events F is ps
+
+-- ---- epoll_ctl
+
+-- what an open file is that a descriptor names
+abbrev pub kind_of : Files → ℕ → Option FileKind
+kind_of F fd = bind (at_place F.descriptors fd) (λ d. bind (at_place F.files d.file) (λ f. Some f.kind))
+
+abbrev pub epoll_number : FileKind → Option ℕ
+epoll_number (kind.Epoll n) = Some n
+epoll_number _ = None
+
+-- the interests of an epoll, and none where there is no such epoll
+abbrev pub interests_in : Option (List Interest) → List Interest
+interests_in None = []
+interests_in (Some is) = is
+
+abbrev pub interests_of : Files → Option ℕ → List Interest
+interests_of F None = []
+interests_of F (Some n) = interests_in (at_place F.epolls n)
+
+-- the interests of an epoll after this
+abbrev pub on_epoll : Files → ℕ → (List Interest → List Interest) → Files
+on_epoll F n f = record F { epolls = slice_set F.epolls n (option_map f (at_place F.epolls n)) }
+
+-- ---- epoll_pwait: Move, Expire and Interrupt
+
+-- no two interests have the same name
+abbrev pub are_apart : List Interest → Bool
+are_apart [] = true
+are_apart (i ∷ is) = not (stands i.file i.descriptor is) && are_apart is

@@ -1,6 +1,0 @@
-use Rattle.lx_player.specs.Play.{Reaches}
-use Rattle.lx_player.proofs.play.steps.Given as goal
-
--- what has been done so far is a run
-abbrev pub invariant-loop-taken : goal.invariant-loop-taken
-invariant-loop-taken l = Reaches l.initial.machine.state.state l.machine.state.state

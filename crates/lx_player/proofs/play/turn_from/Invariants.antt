@@ -1,6 +1,0 @@
-use Rattle.lx_player.specs.Play.{Reaches}
-use Rattle.lx_player.proofs.play.turn_from.Given as goal
-
--- what has been done so far is a run
-abbrev pub invariant-loop-further : goal.invariant-loop-further
-invariant-loop-further l = Reaches l.initial.machine.state.state l.machine.state.state

@@ -1,6 +1,0 @@
-use Rattle.lx_player.specs.Play.{Reaches}
-use Rattle.lx_player.proofs.play.turns.Given as goal
-
--- what has been done so far is a run
-abbrev pub invariant-loop : goal.invariant-loop
-invariant-loop g l = Reaches l.initial.machine.state.state l.machine.state.state

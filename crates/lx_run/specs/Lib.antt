@@ -1,5 +1,0 @@
-pub mod CallSteps
-pub mod Outcomes
-pub mod Places
-pub mod Steps
-pub mod Wholes

@@ -1,4 +1,0 @@
-pub mod Masks
-pub mod Actions
-pub mod Stacks
-pub mod Frames

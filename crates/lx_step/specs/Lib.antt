@@ -1,0 +1,6 @@
+pub mod CallSteps
+pub mod Outcomes
+pub mod Places
+pub mod Steps
+pub mod Wholes
+pub mod Effects

@@ -1,0 +1,34 @@
+-- The step of a call that looks at all threads: of the state with the caller in its place, whose call is taken out of it.
+use Rattle.std.specs.Prelude.{ℕ, List, Option, None, slice_set}
+use Rattle.std.specs.Option.{option_map}
+use Rattle.lx_machine.specs.Threads.{without_call}
+use Rattle.lx_machine.specs.declared.calls.LxCall.{LxCall}
+use Rattle.lx_machine.specs.declared.calls.Stage.{Stage}
+use Rattle.lx_machine.specs.declared.state.LinuxState.{LinuxState}
+use Rattle.lx_machine.specs.declared.threads.LxThread.{LxThread}
+use Rattle.lx_machine.specs.Lists.{at_place, bind}
+use Rattle.lx_machine.specs.declared.calls.Stage.TheVariants as stage
+use Rattle.linux_abi.specs.Call.{call_of}
+use Rattle.lx_step.specs.declared.whole_steps.Taken.{Taken}
+use Rattle.lx_machine.specs.Whole.{Whole}
+use Rattle.lx_machine.specs.Table.{rules_of}
+use Rattle.lx_step.specs.Effects.{all_part}
+
+-- the step of all threads, of a caller with this mask and this robust list, where Effect is what the call does next
+abbrev pub whole_at : Stage → LinuxState → ℕ → ℕ → LxCall → Option Whole
+whole_at stage.Effect L mask robust_head c = all_part (rules_of c).effect L mask robust_head c
+whole_at _ L mask robust_head c = None
+
+-- the call of the thread in a slot, if it is in one, with its mask and its robust list
+abbrev pub taken_from : LxThread → LxCall → Taken
+taken_from t c = record { mask = t.mask; robust_head = t.robust_head; call = c }
+
+abbrev pub taken_of : LxThread → Option Taken
+taken_of t = option_map (taken_from t) t.call
+
+abbrev pub taken_at : List (Option LxThread) → ℕ → Option Taken
+taken_at threads s = bind (at_place threads s) taken_of
+
+-- the threads where the thread in slot s, if there is one, is in no call
+abbrev pub call_out : List (Option LxThread) → ℕ → List (Option LxThread)
+call_out threads s = slice_set threads s (option_map without_call (at_place threads s))

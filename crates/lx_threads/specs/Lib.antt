@@ -1,4 +1,0 @@
-pub mod Deaths
-pub mod Futexes
-pub mod Time
-pub mod Words
