@@ -1,0 +1,16 @@
+pub mod Results
+pub mod Apart
+pub mod Files
+pub mod Controls
+pub mod Moves
+pub mod Queues
+pub mod Frame
+pub mod Runs
+pub mod Clocks
+pub mod Accounts
+pub mod Epolls
+pub mod Places
+pub mod SignalTids
+pub mod Tids
+pub mod Resumes
+pub mod Enters

@@ -1,0 +1,6 @@
+pub mod Kept
+pub mod Clock
+pub mod Consoles
+pub mod Interests
+pub mod Tids
+pub mod Waiters
