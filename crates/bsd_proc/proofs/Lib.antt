@@ -1,0 +1,4 @@
+pub mod SignalPlaces
+pub mod Counts
+pub mod Lowest
+pub mod Queues

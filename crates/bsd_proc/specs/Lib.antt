@@ -1,0 +1,13 @@
+pub mod Signals
+pub mod Slots
+pub mod Actions
+pub mod Births
+pub mod Sending
+pub mod Taking
+pub mod Clock
+pub mod Ends
+pub mod Steps
+pub mod PendingFields
+pub mod PlaceFields
+pub mod Lending
+pub mod ProcessFields

@@ -1,0 +1,6 @@
+pub mod Keeping
+pub mod Picking
+pub mod Reporting
+pub mod Sorting
+pub mod Steps
+pub mod Tallies

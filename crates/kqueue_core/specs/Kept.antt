@@ -1,0 +1,10 @@
+-- What the fields of `Kqueue` keep.
+use Rattle.std.specs.Prelude.{◌≤◌, vec_capacity}
+use Rattle.kqueue_core.specs.declared.queue.Kqueue.TheInside.{Inside}
+use Rattle.kqueue_core.specs.Changes.{IsWatches}
+
+-- the watches, and room in either vector for all that can stand, so that nothing but `make` takes memory
+pub record HasRoom (q : Inside) : Type 0 where
+  pub watches : IsWatches q.watches.items
+  pub room : 512 ≤ vec_capacity q.watches
+  pub reported : 512 ≤ vec_capacity q.reported

@@ -1,0 +1,6 @@
+pub mod Changes
+pub mod Kept
+pub mod Knotes
+pub mod Queues
+pub mod Reports
+pub mod Watches

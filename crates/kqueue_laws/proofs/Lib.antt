@@ -1,0 +1,5 @@
+pub mod Changes
+pub mod Flags
+pub mod Halves
+pub mod Pairs
+pub mod Scans

@@ -1,0 +1,10 @@
+pub mod Lists
+pub mod Waiters
+pub mod Notes
+pub mod Lines
+pub mod Carries
+pub mod PiLines
+pub mod Chains
+pub mod Laws
+pub mod Codes
+pub mod Kept
