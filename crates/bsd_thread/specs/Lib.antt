@@ -1,0 +1,4 @@
+pub mod Lending
+pub mod Phases
+pub mod Calls
+pub mod Threads
