@@ -27,6 +27,17 @@ def linuxulator():
     return ROOT / "crates/linuxulator/out/linuxulator"
 
 
+def lx_play():
+    """The built program lx_play, which `rt run` builds: it runs a guest in the Linux machine alone."""
+    crate = ROOT / "crates/lx_play"
+    built = subprocess.run(["rt", "run"], cwd=crate, stdin=subprocess.DEVNULL, capture_output=True, text=True)
+    path = crate / "out/lx_play"
+    if not path.exists():
+        print(built.stdout + built.stderr)
+        sys.exit("lx_play could not be built")
+    return path
+
+
 def crates_below(names):
     """The lines of crates.txt for these crates and all those below them."""
     lines = {}

@@ -19,6 +19,7 @@ mod branches;
 mod data_registers;
 mod immediates;
 mod loads_stores;
+mod vectors;
 
 /// The instruction of the row that the word fits, with its fields, and none exactly where no row fits. The first byte,
 /// bits 31 to 24, tells the encoding groups apart; the bits of it that are free in a group are the group's operands.
@@ -63,6 +64,10 @@ pub fn decode(word: u32) -> Option<Instr>
         0x3A | 0x7A | 0xBA | 0xFA => data_registers::carry_or_compare(word),
         0x1B => data_registers::three_source_w(word),
         0x9B => data_registers::three_source_x(word),
+        // Moves of vector registers
+        0x0E | 0x4E => vectors::duplicate(word),
+        0x3D => vectors::load_store(word),
+        0xAD => vectors::pair(word),
         _ => None,
     }
 }

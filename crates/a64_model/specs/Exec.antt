@@ -1,5 +1,6 @@
 -- Exec(registers, instruction, answer): the access that an instruction makes, and then the next registers, or the trap.
--- Memory answers the access in one step. An access that alignment refuses, and one that faults, changes nothing.
+-- Memory answers the access in one step. An access that alignment refuses, and one that faults, changes nothing. What the rows
+-- that move vector registers do is VectorMoves.
 -- Source: DDI 0487, C6.2, at each instruction. The signals of traps are those of Linux for arm64 (signal(7)).
 use Rattle.std.specs.Prelude.{true, false, Result, Ok, pos}
 use Rattle.a64_model.specs.Registers.{advanced}
@@ -8,6 +9,8 @@ use Rattle.a64_model.specs.ExecBranches as branches
 use Rattle.a64_model.specs.ExecRegisters as registers
 use Rattle.a64_model.specs.ExecLoadsStores.{need_unsigned, need_indexed, need_register, need_literal, need_pair, need_load, need_store, need_compare_swap, need_atomic, with_number}
 use Rattle.a64_model.specs.ExecLoadsStores as memory
+use Rattle.a64_model.specs.VectorMoves.{need_vector_access, need_vector_pair}
+use Rattle.a64_model.specs.VectorMoves as vectors
 use Rattle.a64_model.specs.declared.regs.Regs.{Regs}
 use Rattle.a64_model.specs.declared.instr.Instr.{Instr}
 use Rattle.a64_model.specs.declared.instr.Instr.TheVariants as instr
@@ -32,6 +35,8 @@ needed regs (instr.StoreOrdered i) = need_store regs i.size i.rn i.rt false
 needed regs (instr.LoadOrdered i) = need_load regs i.size i.rn false
 needed regs (instr.CompareSwap i) = need_compare_swap regs i
 needed regs (instr.Atomic i) = need_atomic regs i
+needed regs (instr.LoadStoreVector i) = need_vector_access regs i
+needed regs (instr.LoadStoreVectorPair i) = need_vector_pair regs i
 needed regs instr.ClearExclusive = Ok access.ClearMark
 needed regs _ = Ok access.None
 
@@ -91,6 +96,9 @@ done regs (instr.StoreOrdered i) a = advanced regs
 done regs (instr.LoadOrdered i) a = advanced (with_number regs i.size i.rt a)
 done regs (instr.CompareSwap i) a = advanced (with_number regs i.size i.rs a)
 done regs (instr.Atomic i) a = advanced (with_number regs i.size i.rt a)
+done regs (instr.LoadStoreVector i) a = vectors.load_store_vector regs i a
+done regs (instr.LoadStoreVectorPair i) a = vectors.load_store_vector_pair regs i a
+done regs (instr.Duplicate i) a = vectors.duplicate regs i
 
 -- the registers after the instruction: a fault changes nothing
 abbrev pub after : Regs → Instr → Answer → Regs

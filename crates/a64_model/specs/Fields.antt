@@ -4,6 +4,7 @@ use Rattle.a64_model.specs.Immediates as immediates
 use Rattle.a64_model.specs.Branches as branches
 use Rattle.a64_model.specs.DataRegisters as registers
 use Rattle.a64_model.specs.LoadsStores as memory
+use Rattle.a64_model.specs.VectorRows as vectors
 use Rattle.a64_model.specs.declared.rows.Form.{Form}
 use Rattle.a64_model.specs.declared.rows.Form.TheVariants as form
 use Rattle.a64_model.specs.declared.instr.Instr.{Instr}
@@ -52,3 +53,6 @@ fields form.StoreOrdered word = memory.store_ordered word
 fields form.LoadOrdered word = memory.load_ordered word
 fields form.CompareSwap word = memory.compare_swap word
 fields (form.Atomic op) word = memory.atomic op word
+fields (form.LoadStoreVector load) word = vectors.load_store_vector load word
+fields (form.LoadStoreVectorPair load) word = vectors.load_store_vector_pair load word
+fields form.Duplicate word = vectors.duplicate word

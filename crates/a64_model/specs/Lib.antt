@@ -21,4 +21,7 @@ pub mod Reversals
 pub mod Rows
 pub mod Shifts
 pub mod Swaps
+pub mod VectorMoves
+pub mod VectorRecord
+pub mod VectorRows
 pub mod Widths

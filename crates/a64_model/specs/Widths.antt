@@ -3,6 +3,7 @@ use Rattle.std.specs.Prelude.{◌*◌, ◌^◌, ◌<◌, ◌≤◌, Bool, true, 
 use Rattle.a64_model.specs.BitMasks.{is_pattern}
 use Rattle.a64_model.specs.Operands.{width_bits}
 use Rattle.a64_model.specs.LoadsStores.{is_offset, may_write_back, may_pair, may_take_status}
+use Rattle.a64_model.specs.VectorRows.{may_duplicate}
 use Rattle.a64_model.specs.declared.instr.Instr.{Instr}
 use Rattle.a64_model.specs.declared.instr.Instr.TheVariants as instr
 use Rattle.a64_model.specs.declared.operands.Comparand.{Comparand}
@@ -75,4 +76,7 @@ HasWidths (instr.LoadStorePair i) =
     (i.imm7 < 2 ^ 7) × IsTrue (is_pair_kind i.kind i.load) × IsTrue (may_write_back i.indexing i.rn i.rt)
     × IsTrue (may_write_back i.indexing i.rn i.rt2) × IsTrue (may_pair i.load i.rt i.rt2)
 HasWidths (instr.StoreExclusive i) = IsTrue (may_take_status i.rs i.rt i.rn)
+HasWidths (instr.LoadStoreVector i) = i.imm12 < 2 ^ 12
+HasWidths (instr.LoadStoreVectorPair i) = (i.imm7 < 2 ^ 7) × IsTrue (may_pair i.load i.rt i.rt2)
+HasWidths (instr.Duplicate i) = IsTrue (may_duplicate i.size i.whole)
 HasWidths _ = Unit {0}

@@ -408,6 +408,41 @@ pub struct Atomic {
     pub rt: Reg,
 }
 
+// Moves of vector registers
+
+/// LDR, or STR, of a Q register (unsigned offset), where `rt` is a vector register. The immediate counts accesses of 16
+/// bytes.
+#[derive(Clone, Copy)]
+pub struct LoadStoreVector {
+    pub aligned: WordAligned,
+    pub load: bool,
+    pub imm12: u16,
+    pub rn: Reg,
+    pub rt: Reg,
+}
+
+/// LDP, or STP, of Q registers (signed offset), where `rt` and `rt2` are vector registers. The immediate is signed and
+/// counts registers of 16 bytes.
+#[derive(Clone, Copy)]
+pub struct LoadStoreVectorPair {
+    pub aligned: WordAligned,
+    pub load: bool,
+    pub imm7: u8,
+    pub rt2: Reg,
+    pub rn: Reg,
+    pub rt: Reg,
+}
+
+/// DUP (general): the low bytes of a general register, over the whole vector register `rd` or over its low 8 bytes.
+#[derive(Clone, Copy)]
+pub struct Duplicate {
+    pub aligned: WordAligned,
+    pub size: Size,
+    pub whole: bool,
+    pub rn: Reg,
+    pub rd: Reg,
+}
+
 /// An instruction, with the fields of its row.
 #[derive(Clone, Copy)]
 pub enum Instr {
@@ -457,4 +492,7 @@ pub enum Instr {
     LoadOrdered(LoadOrdered),
     CompareSwap(CompareSwap),
     Atomic(Atomic),
+    LoadStoreVector(LoadStoreVector),
+    LoadStoreVectorPair(LoadStoreVectorPair),
+    Duplicate(Duplicate),
 }

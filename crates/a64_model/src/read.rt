@@ -12,6 +12,7 @@ pub mod data_registers;
 pub mod immediates;
 pub mod loads_stores;
 pub mod operands;
+pub mod vectors;
 
 use branches::{
     branch, branch_conditional, branch_register, compare_branch, read_thread_pointer, test_branch,
@@ -27,6 +28,7 @@ use loads_stores::{
     atomic, compare_swap, load_exclusive, load_literal, load_ordered, load_store_indexed,
     load_store_pair, load_store_register, load_store_unsigned, store_exclusive, store_ordered,
 };
+use vectors::{duplicate, load_store_vector, load_store_vector_pair};
 
 /// The instruction of a word of this form, or none where the form's condition fails.
 pub fn fields(form: Form, word: u32) -> Option<Instr>
@@ -76,6 +78,9 @@ pub fn fields(form: Form, word: u32) -> Option<Instr>
         Form::LoadOrdered => load_ordered(word),
         Form::CompareSwap => compare_swap(word),
         Form::Atomic(op) => atomic(op, word),
+        Form::LoadStoreVector { load } => load_store_vector(load, word),
+        Form::LoadStoreVectorPair { load } => load_store_vector_pair(load, word),
+        Form::Duplicate => duplicate(word),
     }
 }
 

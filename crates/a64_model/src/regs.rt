@@ -4,7 +4,8 @@ ghost use Rattle.a64_model.specs.Registers.{x_zr, x_sp, with_x_zr, with_x_sp, ad
 
 use crate::operands::Reg;
 
-/// x0 to x30, the stack pointer, the program counter, the flags N, Z, C, V as bits 3 to 0, and TPIDR_EL0.
+/// x0 to x30, the stack pointer, the program counter, the flags N, Z, C, V as bits 3 to 0, TPIDR_EL0, and the vector
+/// registers v0 to v31.
 #[derive(Clone, Copy)]
 pub struct Regs {
     pub x: [u64; 31],
@@ -12,6 +13,7 @@ pub struct Regs {
     pub pc: u64,
     pub nzcv: u8,
     pub tpidr: u64,
+    pub v: [u128; 32],
 }
 
 impl Regs {

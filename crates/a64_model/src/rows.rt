@@ -47,6 +47,9 @@ pub enum Form {
     LoadOrdered,
     CompareSwap,
     Atomic(AtomicOp),
+    LoadStoreVector { load: bool },
+    LoadStoreVectorPair { load: bool },
+    Duplicate,
 }
 
 /// A row: a word fits it where the bits of the mask have the row's value and the condition of its form holds.
@@ -65,7 +68,7 @@ macro_rules! row {
 }
 
 /// All rows, by the encoding groups of DDI 0487, C4.1. No two of them fit one word.
-pub const ROWS: [Row; 74] = [
+pub const ROWS: [Row; 79] = [
     // Data processing -- immediate
     row!(0x9F00_0000, 0x1000_0000 => Form::PcRelative { page: false }), // ADR
     row!(0x9F00_0000, 0x9000_0000 => Form::PcRelative { page: true }), // ADRP
@@ -144,4 +147,10 @@ pub const ROWS: [Row; 74] = [
     row!(0x3F20_FC00, 0x3820_2000 => Form::Atomic(AtomicOp::ExclusiveOr)), // LDEOR and its kin
     row!(0x3F20_FC00, 0x3820_3000 => Form::Atomic(AtomicOp::Set)), // LDSET and its kin
     row!(0x3F20_FC00, 0x3820_8000 => Form::Atomic(AtomicOp::Swap)), // SWP and its kin
+    // Moves of vector registers
+    row!(0xFFC0_0000, 0x3D80_0000 => Form::LoadStoreVector { load: false }), // STR Q (unsigned offset)
+    row!(0xFFC0_0000, 0x3DC0_0000 => Form::LoadStoreVector { load: true }), // LDR Q (unsigned offset)
+    row!(0xFFC0_0000, 0xAD00_0000 => Form::LoadStoreVectorPair { load: false }), // STP Q (signed offset)
+    row!(0xFFC0_0000, 0xAD40_0000 => Form::LoadStoreVectorPair { load: true }), // LDP Q (signed offset)
+    row!(0xBFE0_FC00, 0x0E00_0C00 => Form::Duplicate), // DUP (general)
 ];

@@ -1,7 +1,8 @@
 //! What an instruction asks of memory.
-ghost use Rattle.std.specs.Prelude.{◌≡◌, ◌<◌, ◌^◌, pos};
+ghost use Rattle.std.specs.Prelude.{◌≡◌, ◌<◌, ◌^◌, false, pos};
 ghost use Rattle.a64_model.specs.ExecLoadsStores.{misaligned, with_base, with_aligned_base, transferred, need_unsigned, need_indexed, need_register, literal_access, literal_address, need_literal, pair_access, need_pair, need_load, need_store, need_compare_swap, swap_op, need_atomic};
 ghost use Rattle.a64_model.specs.Exec.{needed};
+ghost use Rattle.a64_model.specs.VectorRows.{is_vector};
 ghost use Rattle.a64_model.specs.Widths.{HasWidths};
 
 use crate::memory::{bytes_of, literal_size, low_part, pair_bytes, pair_size, size_bytes};
@@ -225,9 +226,11 @@ fn need_atomic(regs: &Regs, i: Atomic) -> Result<Access, Next>
 }
 
 /// What the instruction asks of memory: `Err` with the trap exactly where alignment refuses the access, which is SIGBUS
-/// with code 1 and the address of the stack pointer or of the access. A row that makes no access asks nothing.
+/// with code 1 and the address of the stack pointer or of the access. A row that makes no access asks nothing. The crate
+/// `vector_moves` has the rows that move vector registers.
 pub fn need(regs: &Regs, instr: Instr) -> Result<Access, Next>
-    requires { HasWidths instr }
+    requires widths { HasWidths instr }
+    requires general { is_vector instr ≡ false }
     ensures { result ≡ needed regs.now instr }
 {
     match instr {

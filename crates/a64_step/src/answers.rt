@@ -1,8 +1,9 @@
 //! What an instruction does once memory has answered.
-ghost use Rattle.std.specs.Prelude.{◌≡◌, ◌<◌, ◌^◌};
+ghost use Rattle.std.specs.Prelude.{◌≡◌, ◌<◌, ◌^◌, false};
 ghost use Rattle.a64_model.specs.ExecLoadsStores.{with_loaded, load_store_unsigned, load_store_indexed, load_store_register, load_literal, with_pair, load_store_pair, with_number, status, store_exclusive};
 ghost use Rattle.a64_model.specs.Exec.{needed, after, faulted, next, IsAnswer};
 ghost use Rattle.a64_model.specs.Registers.{advanced};
+ghost use Rattle.a64_model.specs.VectorRows.{is_vector};
 ghost use Rattle.a64_model.specs.Widths.{HasWidths};
 
 use crate::memory::{first_loaded, literal_loaded, loaded, number_of, second_loaded};
@@ -104,9 +105,10 @@ fn faulted(fault: Fault) -> Next
 
 /// Ends an instruction whose access had this answer: writes the registers, and tells what comes next. SVC is a call, at
 /// the next instruction; BRK is the trap SIGTRAP with code 1 at pc; a fault is SIGSEGV at its address, and it and BRK
-/// change nothing.
+/// change nothing. The crate `vector_moves` has the rows that move vector registers.
 pub fn finish(regs: &mut Regs, instr: Instr, answer: Answer) -> Next
     requires widths { HasWidths instr }
+    requires general { is_vector instr ≡ false }
     requires answer { IsAnswer (needed regs.old instr) answer }
     ensures regs { regs.new ≡ after regs.old instr answer }
     ensures next { result ≡ next regs.old instr answer }
@@ -163,6 +165,9 @@ pub fn finish(regs: &mut Regs, instr: Instr, answer: Answer) -> Next
         Instr::Atomic(i) => set_number(regs, i.size, i.rt, answer),
         Instr::Hint | Instr::ClearExclusive | Instr::Barrier | Instr::StoreOrdered(_) => {
             regs.advance()
+        }
+        Instr::LoadStoreVector(_) | Instr::LoadStoreVectorPair(_) | Instr::Duplicate(_) => {
+            unreachable!()
         }
     }
     Next::Go

@@ -118,6 +118,12 @@ pub fn fields_of(instr: Instr) -> Fields {
             fields!(i "compare-swap" "size rs rn rt" => size, rs.number, rn.number, rt.number),
         Instr::Atomic(i) =>
             fields!(i "atomic" "size op rs rn rt" => size, op, rs.number, rn.number, rt.number),
+        Instr::LoadStoreVector(i) =>
+            fields!(i "load-store-vector" "load imm12 rn rt" => load, imm12, rn.number, rt.number),
+        Instr::LoadStoreVectorPair(i) =>
+            fields!(i "load-store-vector-pair" "load imm7 rt2 rn rt" => load, imm7, rt2.number, rn.number, rt.number),
+        Instr::Duplicate(i) =>
+            fields!(i "duplicate" "size whole rn rd" => size, whole, rn.number, rd.number),
     }
 }
 

@@ -105,6 +105,11 @@ pub fn tell_changes(
             write!(text, " x{n}={new:X}")?;
         }
     }
+    for (n, (old, new)) in before.v.iter().zip(&after.v).enumerate() {
+        if old != new {
+            write!(text, " q{n}={new:X}")?;
+        }
+    }
     tell_special(text, before, after, next)
 }
 

@@ -1,6 +1,6 @@
 //! Registers as the cases name them.
 
-use crate::numbers::{flags, number_64};
+use crate::numbers::{flags, number, number_64};
 use a64_model::regs::Regs;
 
 /// Registers that are all different, at an address of no special kind.
@@ -9,12 +9,17 @@ pub fn registers() -> Regs {
     for (n, value) in x.iter_mut().enumerate() {
         *value |= n as u64;
     }
+    let mut v = [0x5A5A_5A5A_5A5A_5A5A_5A5A_5A5A_0000_0000; 32];
+    for (n, value) in v.iter_mut().enumerate() {
+        *value |= n as u128;
+    }
     Regs {
         x,
         sp: 0x7_FFF0,
         pc: 0x40_1000,
         nzcv: 0,
         tpidr: 0x1122_3344_5566_7788,
+        v,
     }
 }
 
@@ -24,6 +29,12 @@ fn general<'a>(regs: &'a mut Regs, name: &str) -> Option<&'a mut u64> {
     regs.x.get_mut(n)
 }
 
+/// The vector register of this name.
+fn vector<'a>(regs: &'a mut Regs, name: &str) -> Option<&'a mut u128> {
+    let n = name.strip_prefix('q')?.parse::<usize>().ok()?;
+    regs.v.get_mut(n)
+}
+
 /// Gives the register of this name the value of these digits. None where there is no such register or value.
 pub fn set_register(regs: &mut Regs, name: &str, digits: &str) -> Option<()> {
     match name {
@@ -31,6 +42,7 @@ pub fn set_register(regs: &mut Regs, name: &str, digits: &str) -> Option<()> {
         "pc" => regs.pc = number_64(digits)?,
         "tpidr" => regs.tpidr = number_64(digits)?,
         "nzcv" => regs.nzcv = flags(digits)?,
+        _ if name.starts_with('q') => *vector(regs, name)? = number(digits)?,
         _ => *general(regs, name)? = number_64(digits)?,
     }
     Some(())

@@ -8,8 +8,8 @@ use crate::state::{registers, set_register};
 use a64_decode::decode;
 use a64_model::access::{Access, Answer, Fault};
 use a64_model::regs::Regs;
-use a64_step::{finish, need};
 use std::alloc::{AllocError, Global};
+use vector_moves::every_row::{finish, need};
 
 /// What memory does when it is asked: it stores, gives these bytes, finds no mark, or faults at the address 0x1234.
 #[derive(Clone, Copy)]

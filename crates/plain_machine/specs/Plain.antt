@@ -30,7 +30,7 @@ pub record State : Type 0 where
 -- the first state: all registers are 0 but for pc, which is the entry
 abbrev pub start : ProgramView → State
 start program = record {
-  registers = record { x = replicate 31 0; sp = 0; pc = program.entry; nzcv = 0; tpidr = 0 };
+  registers = record { x = replicate 31 0; sp = 0; pc = program.entry; nzcv = 0; tpidr = 0; v = replicate 32 0 };
   phase = User;
   piece = record { at = 0; len = 0 };
   answer = 0;

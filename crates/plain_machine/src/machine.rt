@@ -8,9 +8,9 @@ use crate::program::Program;
 use a64_model::access::{Access, Answer};
 use a64_model::instr::Instr;
 use a64_model::regs::Regs;
-use a64_step::{finish, need};
 use std::alloc::{AllocError, Global};
 use std::marker::Model;
+use vector_moves::every_row::{finish, need};
 
 /// The most bytes that a guest puts out, in all.
 pub const ROOM: usize = 65_536;
@@ -92,6 +92,7 @@ impl Machine {
                 pc: program.entry(),
                 nzcv: 0,
                 tpidr: 0,
+                v: [0; 32],
             },
             phase: Phase::User,
             piece: NO_PIECE,

@@ -64,6 +64,15 @@ three_source_w-requires c = under 0xFF00_0000 0x1B00_0000 (0x1B ∷ []) c.args.w
 pub three_source_x-requires : goal.three_source_x-requires
 three_source_x-requires c = under 0xFF00_0000 0x9B00_0000 (0x9B ∷ []) c.args.word refl refl c.in-155.is
 
+pub duplicate-requires : goal.duplicate-requires
+duplicate-requires c = under 0xBF00_0000 0x0E00_0000 (0x0E ∷ 0x4E ∷ []) c.args.word refl refl c.in-14.is
+
+pub load_store-requires : goal.load_store-requires
+load_store-requires c = under 0xFF00_0000 0x3D00_0000 (0x3D ∷ []) c.args.word refl refl c.in-61.is
+
+pub pair-requires-in-173 : goal.pair-requires-in-173
+pair-requires-in-173 c = under 0xFF00_0000 0xAD00_0000 (0xAD ∷ []) c.args.word refl refl c.in-173.is
+
 pub returns-in-24-clause-row : goal.returns-in-24-clause-row
 returns-in-24-clause-row c =
     row_at 0x3F00_0000 0x1800_0000 c.args.word form.LoadLiteral (under 0x3F00_0000 0x1800_0000 (0x18 ∷ 0x58 ∷ 0x98 ∷ 0xD8 ∷ []) c.args.word refl refl c.in-24.is) refl refl c.load_literal.ensures.value
@@ -106,6 +115,9 @@ groups =
     ∷ (0x3A ∷ 0x7A ∷ 0xBA ∷ 0xFA ∷ [])
     ∷ (0x1B ∷ [])
     ∷ (0x9B ∷ [])
+    ∷ (0x0E ∷ 0x4E ∷ [])
+    ∷ (0x3D ∷ [])
+    ∷ (0xAD ∷ [])
     ∷ []
 
 pub returns-in_default-clause-row : goal.returns-in_default-clause-row

@@ -166,7 +166,7 @@ fn pair_kind(opc: u32, load: bool) -> Option<PairKind>
 }
 
 /// Whether a load into two registers has two different ones.
-fn may_pair(load: bool, rt: Reg, rt2: Reg) -> bool
+pub fn may_pair(load: bool, rt: Reg, rt2: Reg) -> bool
     ensures { result ≡ may_pair load rt rt2 }
 {
     !(load && is_same(rt, rt2))
