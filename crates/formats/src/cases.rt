@@ -9,7 +9,7 @@ use crate::tapes::{write_record, write_tape_of};
 use crate::texts::{bytes_of, code_of, number};
 use crate::trouble::Trouble;
 use code_image::image_of;
-use std::alloc::Global;
+use std::alloc::{AllocError, Global};
 
 const BAD_LINE: &str = "no such line, or a word of it isn't as it has to be";
 
@@ -58,18 +58,24 @@ fn write_parts(
     Ok(())
 }
 
-// The four numbers at the head of a record.
-fn head_of(words: [&str; 4]) -> Option<[u64; 4]> {
-    let [first, second, third, fourth] = words;
+// The five numbers at the head of a record.
+fn head_of(words: [&str; 5]) -> Option<[u64; 5]> {
+    let [first, second, third, fourth, fifth] = words;
     Some([
         number(first)?,
         number(second)?,
         number(third)?,
         number(fourth)?,
+        number(fifth)?,
     ])
 }
 
-// Calls the top call: the edits of the file stand before the colon, and the words of the call behind it.
+// Which calls on the shelf and on the sinks fail.
+fn fails_of(load: &str, out: &str, err: &str) -> Option<[u64; 3]> {
+    Some([number(load)?, number(out)?, number(err)?])
+}
+
+// Calls the top call with the file edited.
 fn write_call(
     text: &mut String,
     alloc: Global,
@@ -88,6 +94,51 @@ fn write_call(
     Ok(true)
 }
 
+// Tells whether the bytes of two names are equal.
+fn write_same(
+    text: &mut String,
+    store: &Store,
+    case: &str,
+    first: &str,
+    second: &str,
+) -> Result<(), AllocError> {
+    let same = store.find(first) == store.find(second);
+    let told = if same { "the same" } else { "not the same" };
+    writeln!(text, "{case}: {told}")
+}
+
+// Gives bytes a name, as the words behind `bytes` or `code` tell them.
+fn play_bytes(
+    alloc: Global,
+    kind: &str,
+    name: &str,
+    words: &[&str],
+    store: &mut Store,
+) -> Result<bool, Trouble> {
+    let bytes = if kind == "bytes" {
+        bytes_of(alloc, words)?
+    } else {
+        image_of_words(alloc, words)?
+    };
+    add(store, name, bytes)
+}
+
+// Reads the first parts of the bytes of a name.
+fn play_parts(
+    text: &mut String,
+    alloc: Global,
+    store: &Store,
+    kind: &str,
+    words: [&str; 3],
+) -> Result<bool, Trouble> {
+    let [case, name, to] = words;
+    let (Some(bytes), Some(to)) = (store.find(name), number(to)) else {
+        return Ok(false);
+    };
+    write_parts(text, alloc, kind, case, bytes, to as usize)?;
+    Ok(true)
+}
+
 // Plays the words of a line, and answers whether they are a line of cases.
 fn play_words(
     rt: &HostRuntime,
@@ -97,99 +148,118 @@ fn play_words(
 ) -> Result<bool, Trouble> {
     let alloc = rt.alloc();
     match *words {
-        ["bytes", name, ref hex @ ..] => {
-            let bytes = bytes_of(alloc, hex)?;
-            add(store, name, bytes)
-        }
-        ["code", name, ref code @ ..] => {
-            let bytes = image_of_words(alloc, code)?;
-            add(store, name, bytes)
-        }
+        [kind @ ("bytes" | "code"), name, ref more @ ..] => play_bytes(
+            alloc, kind, name, more, store,
+        ),
         ["same", case, first, second] => {
-            let same = store.find(first) == store.find(second);
-            text.push_str(case)?;
-            text.push_str(if same {
-                ": the same\n"
-            } else {
-                ": not the same\n"
-            })?;
+            write_same(text, store, case, first, second)?;
             Ok(true)
         }
-        ["images" | "tapes", case, name, to] => {
-            let (Some(bytes), Some(to)) = (store.find(name), number(to)) else {
-                return Ok(false);
-            };
-            write_parts(text, alloc, words[0], case, bytes, to as usize)?;
-            Ok(true)
-        }
+        [kind @ ("images" | "tapes"), case, name, to] => play_parts(
+            text,
+            alloc,
+            store,
+            kind,
+            [case, name, to],
+        ),
         ["numbers"] => {
             write_numbers(text)?;
             Ok(true)
         }
-        _ => play_case(rt, words, store, text),
+        [kind, case, ref rest @ ..] => {
+            write!(text, "{case}: ")?;
+            let played = play_case(rt, kind, rest, store, text)?;
+            text.push_str("\n")?;
+            Ok(played)
+        }
+        _ => Ok(false),
     }
 }
 
-// Plays a case of one line.
+// Reads the bytes of a name, edited, as an image or a tape file.
+fn play_read(
+    text: &mut String,
+    alloc: Global,
+    store: &Store,
+    kind: &str,
+    words: &[&str],
+) -> Result<bool, Trouble> {
+    let [name, edits @ ..] = words else {
+        return Ok(false);
+    };
+    let Some(bytes) = store.edited(name, edits)? else {
+        return Ok(false);
+    };
+    write_read(text, alloc, kind, &bytes)?;
+    Ok(true)
+}
+
+// Writes a tape of entries, and reads it again.
+fn play_record(text: &mut String, alloc: Global, words: &[&str]) -> Result<bool, Trouble> {
+    let [seed, pages, rules, room, kept, entries @ ..] = words else {
+        return Ok(false);
+    };
+    let Some(head) = head_of([seed, pages, rules, room, kept]) else {
+        return Ok(false);
+    };
+    write_record(text, alloc, head, entries)?;
+    Ok(true)
+}
+
+// Calls the top call: the edits of the file stand before the colon, and the words of the call behind it.
+fn play_run(
+    text: &mut String,
+    alloc: Global,
+    store: &Store,
+    words: &[&str],
+) -> Result<bool, Trouble> {
+    let [load, out, err, name, rest @ ..] = words else {
+        return Ok(false);
+    };
+    let Some(fails) = fails_of(load, out, err) else {
+        return Ok(false);
+    };
+    write_call(text, alloc, store, fails, name, rest)
+}
+
+// Reads a source in memory.
+fn play_source(
+    text: &mut String,
+    alloc: Global,
+    store: &Store,
+    words: &[&str],
+) -> Result<bool, Trouble> {
+    let [size, fails, name] = *words else {
+        return Ok(false);
+    };
+    let (Some(size), Some(fails), Some(bytes)) = (number(size), number(fails), store.find(name))
+    else {
+        return Ok(false);
+    };
+    write_source(text, alloc, size, fails, bytes)?;
+    Ok(true)
+}
+
+// Plays a case of one line, by the words behind its name.
 fn play_case(
     rt: &HostRuntime,
+    kind: &str,
     words: &[&str],
     store: &Store,
     text: &mut String,
 ) -> Result<bool, Trouble> {
-    let [kind, case, rest @ ..] = words else {
-        return Ok(false);
-    };
     let alloc = rt.alloc();
-    text.push_str(case)?;
-    text.push_str(": ")?;
-    let played = match (*kind, rest) {
-        ("image" | "tape", [name, edits @ ..]) => match store.edited(name, edits)? {
-            Some(bytes) => {
-                write_read(text, alloc, kind, &bytes)?;
-                true
-            }
-            None => false,
-        },
-        ("record", [seed, pages, room, kept, entries @ ..]) => match head_of([
-            seed, pages, room, kept,
-        ]) {
-            Some(head) => {
-                write_record(text, alloc, head, entries)?;
-                true
-            }
-            None => false,
-        },
-        ("run", [load, out, err, name, rest @ ..]) => match (
-            number(load),
-            number(out),
-            number(err),
-        ) {
-            (Some(load), Some(out), Some(err)) => write_call(
-                text,
-                alloc,
-                store,
-                [load, out, err],
-                name,
-                rest,
-            )?,
-            _ => false,
-        },
-        ("source", [size, fails, name]) => match (number(size), number(fails), store.find(name)) {
-            (Some(size), Some(fails), Some(bytes)) => {
-                write_source(text, alloc, size, fails, bytes)?;
-                true
-            }
-            _ => false,
-        },
-        ("outside", []) => {
+    match kind {
+        "image" | "tape" => play_read(text, alloc, store, kind, words),
+        "record" => play_record(text, alloc, words),
+        "run" => play_run(text, alloc, store, words),
+        "source" => play_source(text, alloc, store, words),
+        "outside" if words.is_empty() => {
             write_sides(text, rt)?;
-            true
+            Ok(true)
         }
-        _ => false,
-    };
-    text.push_str("\n")?;
-    Ok(played)
+        _ => Ok(false),
+    }
 }
 
 /// Plays a line of a file of cases, and puts what is to be printed into the text.

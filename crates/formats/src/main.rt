@@ -13,7 +13,7 @@
 //! | `images CASE NAME TO` | so with each first part of fewer than TO bytes |
 //! | `tape CASE NAME EDIT ..` | reads the bytes as a tape file, and writes the tape |
 //! | `tapes CASE NAME TO` | reads each first part of fewer than TO bytes |
-//! | `record CASE SEED PAGES ROOM KEPT ENTRIES ..` | puts entries, each `COUNT ACTOR AMOUNT`, into a new tape, and keeps the first of them |
+//! | `record CASE SEED PAGES RULES ROOM KEPT ENTRIES ..` | puts entries, each `COUNT ACTOR AMOUNT`, into a new tape, and keeps the first of them |
 //! | `run CASE LOAD OUT ERR NAME EDIT .. : WORD ..` | calls the top call with these words, and with the bytes as the file `guest`; the numbers are the calls on the shelf and on the sinks that fail |
 //! | `source CASE SIZE FAILS NAME` | reads so many bytes at a time, where one call fails |
 //! | `numbers` | prints the tables of numbers |

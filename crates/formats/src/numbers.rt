@@ -212,25 +212,44 @@ fn write_choice(
     }
 }
 
+// Each argument that a number is a choice of, and the choice's number again.
+fn choices_of(number: u64) -> [(&'static str, Option<u64>); 8] {
+    [
+        (
+            "fcntl",
+            DescriptorOperation::new(number).map(|choice| choice.number()),
+        ),
+        (
+            "epoll_ctl",
+            EpollOperation::new(number).map(|choice| choice.number()),
+        ),
+        (
+            "futex",
+            FutexOperation::new(number).map(|choice| choice.number()),
+        ),
+        (
+            "word operation",
+            WordOperation::new(number).map(|choice| choice.number()),
+        ),
+        (
+            "comparison",
+            Comparison::new(number).map(|choice| choice.number()),
+        ),
+        ("madvise", Advice::new(number).map(|choice| choice.number())),
+        ("clock", ClockId::new(number).map(|choice| choice.number())),
+        (
+            "rt_sigprocmask",
+            MaskChange::new(number).map(|choice| choice.number()),
+        ),
+    ]
+}
+
 // The choices of a number in an argument.
 fn write_choices(text: &mut String) -> Result<(), AllocError> {
     for number in 0..2000 {
-        let fcntl = DescriptorOperation::new(number).map(|choice| choice.number());
-        write_choice(text, "fcntl", number, fcntl)?;
-        let epoll_ctl = EpollOperation::new(number).map(|choice| choice.number());
-        write_choice(text, "epoll_ctl", number, epoll_ctl)?;
-        let futex = FutexOperation::new(number).map(|choice| choice.number());
-        write_choice(text, "futex", number, futex)?;
-        let operation = WordOperation::new(number).map(|choice| choice.number());
-        write_choice(text, "word operation", number, operation)?;
-        let comparison = Comparison::new(number).map(|choice| choice.number());
-        write_choice(text, "comparison", number, comparison)?;
-        let madvise = Advice::new(number).map(|choice| choice.number());
-        write_choice(text, "madvise", number, madvise)?;
-        let clock = ClockId::new(number).map(|choice| choice.number());
-        write_choice(text, "clock", number, clock)?;
-        let change = MaskChange::new(number).map(|choice| choice.number());
-        write_choice(text, "rt_sigprocmask", number, change)?;
+        for (name, back) in &choices_of(number) {
+            write_choice(text, name, number, *back)?;
+        }
     }
     Ok(())
 }

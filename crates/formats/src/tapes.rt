@@ -44,9 +44,10 @@ fn write_runs(text: &mut String, entries: &[Entry]) -> Result<(), AllocError> {
 fn write_whole(text: &mut String, alloc: Global, tape: &Tape) -> Result<(), Trouble> {
     write!(
         text,
-        "seed {}, {} pages, room {}",
+        "seed {}, {} pages, rules {}, room {}",
         tape.seed(),
         tape.pages(),
+        tape.rules(),
         tape.room()
     )?;
     write_runs(text, tape.entries())?;
@@ -116,14 +117,15 @@ fn across_threads<T: Send + Sync>(value: T) -> T
 pub fn write_record(
     text: &mut String,
     alloc: Global,
-    head: [u64; 4],
+    head: [u64; 5],
     entries: &[&str],
 ) -> Result<(), Trouble> {
-    let [seed, pages, room, kept] = head;
+    let [seed, pages, rules, room, kept] = head;
     let Ok(mut tape) = Tape::with_room(
         alloc,
         seed,
         pages.min(65_536) as u32,
+        if rules == 1 { 1 } else { 2 },
         room.min(20_000_000) as u32,
     ) else {
         return Err(Trouble::NoMemory);

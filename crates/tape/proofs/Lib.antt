@@ -1,3 +1,7 @@
-pub mod Written
-pub mod Spelled
-pub mod Records
+pub mod Tests
+pub mod Places
+pub mod Runs
+pub mod Judged
+pub mod Version1
+pub mod Version2
+pub mod Files

@@ -1,7 +1,7 @@
 -- The text of a fault of a tape file. This project's own.
 use Rattle.std.specs.Prelude.{ℕ, List, [], ◌++◌, Option, Some, None, codes, decimal}
 use Rattle.tape.specs.declared.fault.TapeFault.{TapeFault}
-use Rattle.tape.specs.declared.fault.TapeFault.TheVariants.{BadMagic, Torn, TooLong, BadPages, BadActor, NoMemory}
+use Rattle.tape.specs.declared.fault.TapeFault.TheVariants.{BadMagic, Torn, TooLong, BadPages, BadRules, BadRun, BadActor, NoMemory}
 
 -- the words of a fault; want of memory is no fault of the file, and has none
 abbrev pub fault_words : TapeFault → List ℕ
@@ -9,6 +9,8 @@ fault_words BadMagic = codes "bad magic"
 fault_words (Torn at) = codes "torn at "
 fault_words (TooLong count) = codes "too many entries"
 fault_words (BadPages pages) = codes "bad pages"
+fault_words (BadRules rules) = codes "bad rules"
+fault_words (BadRun at) = codes "bad run "
 fault_words (BadActor at) = codes "bad actor in entry "
 fault_words NoMemory = []
 
@@ -18,6 +20,8 @@ fault_place BadMagic = None
 fault_place (Torn at) = Some at
 fault_place (TooLong count) = None
 fault_place (BadPages pages) = None
+fault_place (BadRules rules) = None
+fault_place (BadRun at) = Some at
 fault_place (BadActor at) = Some at
 fault_place NoMemory = None
 

@@ -18,16 +18,21 @@ impl From<AllocError> for NoMemory {
 /// The first fault of bytes that are no tape file, or want of memory.
 #[derive(Clone, Copy)]
 pub enum TapeFault {
-    /// The file does not begin with `LXTAPE1` and a newline.
+    /// The file does not begin with `LXTAPE1` or `LXTAPE2` and a newline.
     BadMagic,
-    /// The file is shorter than its header, or has another length than its count asks for. `at` is its
-    /// length in bytes.
+    /// The file is shorter than its header, ends before it has the entries that it claims, or has bytes
+    /// behind them. `at` is its length in bytes.
     Torn { at: u64 },
     /// The file claims `count` entries, more than 20,000,000.
     TooLong { count: u64 },
     /// The file claims `pages` pages: none, or more than 65,536.
     BadPages { pages: u64 },
-    /// Entry `at`, counted from 0, is the first whose actor is none.
+    /// The file names `rules` that are neither 1 nor 2.
+    BadRules { rules: u64 },
+    /// Run `at`, counted from 0, is empty, has the entry of the run before it, or has more entries than are
+    /// left of those that the file claims.
+    BadRun { at: u64 },
+    /// Entry `at`, counted from 0, is the first whose actor is none under the file's rules.
     BadActor { at: u64 },
     /// Memory ran out; the file has no fault.
     NoMemory,
@@ -55,17 +60,21 @@ impl TapeFault {
             TapeFault::Torn { .. } => "torn at ",
             TapeFault::TooLong { .. } => "too many entries",
             TapeFault::BadPages { .. } => "bad pages",
+            TapeFault::BadRules { .. } => "bad rules",
+            TapeFault::BadRun { .. } => "bad run ",
             TapeFault::BadActor { .. } => "bad actor in entry ",
             TapeFault::NoMemory => "",
         }
     }
 
-    /// The number that follows the words, in decimal: the length of a torn file, or the place of an entry.
+    /// The number that follows the words, in decimal: the length of a torn file, or the place of a run or an entry.
     pub fn place(self) -> Option<u64>
         ensures { result ≡ fault_place self }
     {
         match self {
-            TapeFault::Torn { at } | TapeFault::BadActor { at } => Some(at),
+            TapeFault::Torn { at } | TapeFault::BadRun { at } | TapeFault::BadActor { at } => {
+                Some(at)
+            }
             _ => None,
         }
     }

@@ -1,9 +1,12 @@
 //! A tape in memory.
 
-ghost use Rattle.std.specs.Prelude.{◌≡◌, ◌≤◌, ◌↔◌, ◌++◌, ◌∷◌, [], length, take, IfOk, IsErr, OnOk, OnErr};
+ghost use Rattle.std.specs.Prelude.{◌≡◌, ◌<◌, ◌≤◌, ◌+◌, ◌^◌, ◌↔◌, ◌++◌, ◌∷◌, [], length, take, IfOk, IsErr, OnOk, OnErr};
+ghost use Rattle.tape.specs.Entry.{IsRules};
+ghost use Rattle.tape.specs.Runs.{entries_of};
 
 use crate::entry::Entry;
 use crate::fault::NoMemory;
+use crate::run::Run;
 use std::alloc::Global;
 use std::marker::Model;
 
@@ -11,48 +14,60 @@ use std::marker::Model;
 #[derive(Clone, Copy)]
 pub struct Full;
 
-/// The entries of a run in order, with the seed and the number of pages that it was begun with. Its room,
+/// The entries of a run in order, with the seed, the number of pages and the rules that it was begun with. Its room,
 /// the number of entries that it can hold, is taken at once, so that a push takes no memory.
 #[derive(Drop)]
 pub struct Tape {
     seed: u64,
     pages: u32,
+    rules: u8,
     room: u32,
     entries: Vec<Entry>,
 }
 
 impl Model for Tape {
-    ghost use Rattle.std.specs.Prelude.{◌≤◌, vec_len, vec_capacity};
+    ghost use Rattle.std.specs.Prelude.{◌<◌, ◌≤◌, ◌^◌, vec_len, vec_capacity};
     ghost use Rattle.tape.specs.Tape.{Recording};
+    ghost use Rattle.tape.specs.Entry.{IsRules};
 
     ghost Value = { Recording };
 
-    ghost view = { λ t. record { seed = t.seed; pages = t.pages; room = t.room; entries = t.entries.items } };
+    ghost view = { λ t. record { seed = t.seed; pages = t.pages; rules = t.rules; room = t.room; entries = t.entries.items } };
 
-    ghost invariant = { λ t. (vec_len t.entries ≤ t.room) × (t.room ≤ vec_capacity t.entries) };
+    ghost invariant = { λ t. (vec_len t.entries ≤ t.room) × (t.room ≤ vec_capacity t.entries) × (t.room < 2 ^ 32) × IsRules t.rules };
 }
 
 impl Tape {
-    /// A tape without entries that can hold `room` of them.
-    pub fn with_room(alloc: Global, seed: u64, pages: u32, room: u32) -> Result<Tape, NoMemory>
-        ensures { IfOk result (λ tape. tape ≡ record { seed = seed; pages = pages; room = room; entries = [] }) }
+    /// A tape without entries that can hold `room` of them. Its rules are 1 or 2.
+    pub fn with_room(
+        alloc: Global,
+        seed: u64,
+        pages: u32,
+        rules: u8,
+        room: u32,
+    ) -> Result<Tape, NoMemory>
+        requires { IsRules rules }
+        ensures { IfOk result (λ tape. tape ≡ record { seed = seed; pages = pages; rules = rules; room = room; entries = [] }) }
     {
         let entries = Vec::with_capacity(alloc, room as usize)?;
         Ok(Tape {
             seed,
             pages,
+            rules,
             room,
             entries,
         })
     }
 
-    /// A tape without entries and without room. It takes no memory.
-    pub fn empty(alloc: Global, seed: u64, pages: u32) -> Tape
-        ensures { result ≡ record { seed = seed; pages = pages; room = 0; entries = [] } }
+    /// A tape without entries and without room. Its rules are 1 or 2. It takes no memory.
+    pub fn empty(alloc: Global, seed: u64, pages: u32, rules: u8) -> Tape
+        requires { IsRules rules }
+        ensures { result ≡ record { seed = seed; pages = pages; rules = rules; room = 0; entries = [] } }
     {
         Tape {
             seed,
             pages,
+            rules,
             room: 0,
             entries: Vec::new(alloc),
         }
@@ -75,16 +90,26 @@ impl Tape {
         if self.entries.len() == self.room as usize {
             return Err(Full);
         }
-        let Ok(()) = self.entries.push(entry) else {
+        self.entries.push_reserved(entry);
+        Ok(())
+    }
+
+    /// Adds the entries of a run at the end, where there is room for them. It takes no memory.
+    pub(crate) fn push_run(&mut self, run: Run)
+        requires { length self.old.entries + run.length ≤ self.old.room }
+        ensures { self.new ≡ record self.old { entries = self.old.entries ++ entries_of run } }
+    {
+        let length = self.entries.len() + run.length as usize;
+        let Ok(()) = self.entries.resize(length, run.entry) else {
             unreachable!()
         };
-        Ok(())
     }
 
     /// The entries, the first one first.
     pub fn entries(&self) -> &[Entry]
         ensures value { result.now ≡ self.now.entries }
         ensures within { length self.now.entries ≤ self.now.room }
+        ensures few { length self.now.entries < 2 ^ 32 }
     {
         self.entries.as_slice()
     }
@@ -101,6 +126,14 @@ impl Tape {
         ensures { result ≡ self.now.pages }
     {
         self.pages
+    }
+
+    /// The rules that the run was begun with, 1 or 2.
+    pub fn rules(&self) -> u8
+        ensures value { result ≡ self.now.rules }
+        ensures known { IsRules self.now.rules }
+    {
+        self.rules
     }
 
     /// How many entries the tape can hold.
