@@ -65,6 +65,7 @@ impl Thread {
                 pc: 0,
                 nzcv: 0,
                 tpidr: 0,
+                v: [0; 32],
             },
             mask: 0,
             saved_mask: None,

@@ -13,7 +13,7 @@ use linux_abi::LinuxErrno;
 use lx_machine::buffer::{Bytes, NoMemory};
 use lx_machine::calls::{LxCall, Piece, Pieces, Stage, has_other, refused_if};
 use lx_machine::signals::Pending;
-use lx_machine::state::THREADS;
+use lx_machine::state::{Slot, THREADS};
 use lx_machine::threads::{AltStack, Life, LxThread};
 use std::alloc::Global;
 
@@ -117,14 +117,13 @@ fn first_free_from(from: u8, places: &[Option<LxThread>]) -> Option<u8>
 }
 
 /// The lowest free place, as long as there is a tid (clone(2)).
-fn place_for(threads: &[Option<LxThread>; THREADS], next_tid: u32) -> Option<u8>
-    ensures place { result ≡ place_for threads.now next_tid }
-    ensures below { IfSome result (λ place. place < 32) }
+fn place_for(threads: &[Option<LxThread>; THREADS], next_tid: u32) -> Option<Slot>
+    ensures { result ≡ place_for threads.now next_tid }
 {
     if next_tid > LAST_TID {
         None
     } else {
-        first_free_from(0, threads)
+        Slot::new(first_free_from(0, threads)?)
     }
 }
 
@@ -138,6 +137,7 @@ fn no_regs() -> Regs
         pc: 0,
         nzcv: 0,
         tpidr: 0,
+        v: [0; 32],
     }
 }
 
@@ -217,7 +217,7 @@ fn tid_bytes(alloc: Global, call: &LxCall, tid: u32) -> Result<Bytes, NoMemory>
 }
 
 /// The call has the tid as its result, and a child in this place. Where memory is wanting, nothing changes.
-fn set_child(alloc: Global, call: &mut LxCall, tid: u32, slot: u8) -> Result<(), NoMemory>
+fn set_child(alloc: Global, call: &mut LxCall, tid: u32, slot: Slot) -> Result<(), NoMemory>
     ensures ok { OnOk result (call.new ≡ with_child call.old tid slot) }
     ensures err { OnErr result (call.new ≡ call.old) }
 {
@@ -245,7 +245,7 @@ pub fn cloned(
         return Ok(());
     };
     set_child(alloc, call, tid, slot)?;
-    threads[usize::from(slot)] = Some(reserved(tid, mask));
+    threads[slot.index()] = Some(reserved(tid, mask));
     *next_tid = tid + 1;
     Ok(())
 }

@@ -11,6 +11,7 @@ ghost use Rattle.lx_machine.specs.Descriptors.{files_outcome, has_cloexec, refus
 ghost use Rattle.lx_machine.specs.Epoll.{are_apart, epoll_number, events, interests_in, interests_of, is_answer, kind_of, on_epoll};
 ghost use Rattle.lx_machine.specs.EpollCreate.{epoll_create1, epoll_create_at, epoll_create_numbers, epoll_create_refusals};
 ghost use Rattle.lx_machine.specs.EpollCtl.{asked_of, control, control_of, control_refusal, controlled, data_of, descriptor_refusals, epoll_ctl, epoll_ctl_pieces, epoll_ctl_refusals, epoll_ctl_stage, epoll_ctl_stage_of, epoll_ctl_unless, epoll_of, event_pieces, fetched_number, file_of, interest_refusals, is_add, is_exclusive, new_interest, or_else, stands_in};
+ghost use Rattle.lx_machine.specs.Transfers.{has_most_holds, is_held_most};
 ghost use Rattle.lx_machine.specs.EpollWait.{MakesFiles, epoll_can_move, epoll_expired, epoll_held, epoll_held_file, epoll_interrupted, epoll_moved, epoll_pwait_clock, epoll_pwait_held, epoll_pwait_pieces, epoll_pwait_refusals, epoll_pwait_stage, first_picks, gives_epoll_back, has_timeout, held_epoll, hold_epoll, is_no_count, most_of, reports, reports_if, reports_of, with_timeout};
 
 use crate::epolls::{append_events, has_due, is_answer, push_due, told};
@@ -19,11 +20,11 @@ use linux_abi::LinuxErrno;
 use linux_abi::epoll::{EPOLLEXCLUSIVE, EpollOperation};
 use lx_files::descriptors::{has_cloexec, lowest_from, named};
 use lx_files::files::{
-    add_file, first_free, give_back, hold_once, place_at, set_descriptor, set_place,
+    add_file, first_free, give_back, hold_once, numbered_at, place_at, set_descriptor, set_place,
 };
 use lx_machine::buffer::{Bytes, NoMemory};
 use lx_machine::calls::{LxCall, Piece, Pieces, Stage, has_other, refused_if};
-use lx_machine::files::{Descriptor, FileKind, Files, Interest, Interests, OpenFile, is_named};
+use lx_machine::files::{Descriptor, FileKind, Files, Interest, Interests, NumberedFile, is_named};
 use lx_machine::label::{Pick, Picks};
 use lx_machine::refusal::LxRefusal;
 use std::alloc::Global;
@@ -449,14 +450,15 @@ pub fn set_timeout(call: &mut LxCall, clock: u64)
 }
 
 /// The call holds this open file, if it is an epoll. `NoMemory`: one more hold can't be counted.
-fn hold_epoll(files: &mut Files, call: &mut LxCall, file: u32, f: OpenFile) -> Result<(), NoMemory>
-    ensures ok { OnOk result (files_outcome files.new call.new ≡ epoll_held_file files.old call.old file (Some f)) }
+fn hold_epoll(files: &mut Files, call: &mut LxCall, f: NumberedFile) -> Result<(), NoMemory>
+    ensures ok { OnOk result (files_outcome files.new call.new ≡ epoll_held_file files.old call.old (Some f)) }
     ensures err { OnErr result ((files.new ≡ files.old) × (call.new ≡ call.old)) }
+    ensures full { OnErr result (is_held_most (Some f.file) ≡ true) }
 {
-    match epoll_number(f.kind) {
+    match epoll_number(f.file.kind) {
         Some(_) => {
-            hold_once(files, file, f)?;
-            call.held = Some(file);
+            hold_once(files, f)?;
+            call.held = Some(f.number);
         }
         None => call.refuse(LinuxErrno::EINVAL),
     }
@@ -468,13 +470,14 @@ fn hold_epoll(files: &mut Files, call: &mut LxCall, file: u32, f: OpenFile) -> R
 pub fn epoll_hold(files: &mut Files, call: &mut LxCall) -> Result<(), NoMemory>
     ensures ok { OnOk result (files_outcome files.new call.new ≡ epoll_held files.old call.old) }
     ensures err { OnErr result ((files.new ≡ files.old) × (call.new ≡ call.old)) }
+    ensures full { OnErr result (has_most_holds files.old call.old ≡ true) }
 {
     let Some(d) = named(files, call, 0) else {
         call.refuse(LinuxErrno::EBADF);
         return Ok(());
     };
-    match place_at(&files.files, d.file) {
-        Some(f) => hold_epoll(files, call, d.file, f),
+    match numbered_at(files, d.file) {
+        Some(f) => hold_epoll(files, call, f),
         None => {
             call.refuse(LinuxErrno::EBADF);
             Ok(())
@@ -642,7 +645,8 @@ pub fn epoll_expire(files: &mut Files, call: &mut LxCall) -> Result<(), LxRefusa
 
 /// Interrupt: the wait ends by a signal, with EINTR. Not enabled: it holds no epoll.
 pub fn epoll_interrupt(files: &mut Files, call: &mut LxCall) -> Result<(), LxRefusal>
-    ensures { MakesFiles (epoll_interrupted files.old call.old) files.old call.old files.new call.new result }
+    ensures goes { MakesFiles (epoll_interrupted files.old call.old) files.old call.old files.new call.new result }
+    ensures no_step { IfErr result (λ e. e ≡ LxRefusal.NoStep) }
 {
     let Some(file) = call.held else {
         return Err(LxRefusal::NoStep);

@@ -3,11 +3,11 @@ ghost use Rattle.std.specs.Prelude.{◌≡◌, ◌<◌, ◌+◌, ◌^◌, ◌≤
 ghost use Rattle.std.specs.List.{list_any};
 ghost use Rattle.lx_machine.specs.Lists.{at_place, first_free, first_free_from, without_place};
 ghost use Rattle.lx_machine.specs.Interests.{armed_on, without_interests};
-ghost use Rattle.lx_machine.specs.Files.{after_end_of, closed, closed_if_unnamed, ended_if_unnamed, given_back, has_reader, has_writer, held_once_less, held_once_more, is_open_as, is_read_end, is_unnamed, is_write_end, names, with_descriptor, with_file, with_hold, without_file, without_pipe};
+ghost use Rattle.lx_machine.specs.Files.{after_end_of, closed, closed_if_unnamed, ended_if_unnamed, given_back, has_reader, has_writer, held_once_less, held_once_more, is_open_as, is_read_end, is_unnamed, is_write_end, names, numbered_at, with_descriptor, with_file, with_hold, without_file, without_pipe};
 
 use crate::interests::{arm_on, remove_interests};
 use lx_machine::buffer::NoMemory;
-use lx_machine::files::{Descriptor, FileKind, Files, OpenFile};
+use lx_machine::files::{Descriptor, FileKind, Files, NumberedFile, OpenFile};
 
 /// The lowest free place, where these are the places from `from` on.
 pub fn first_free_from<T>(from: u32, places: &[Option<T>]) -> Option<u32>
@@ -63,6 +63,14 @@ pub fn set_place<T: Drop>(places: &mut [Option<T>], at: u32, place: Option<T>)
     }
 }
 
+/// The open file of this number, if there is one.
+pub fn numbered_at(files: &Files, number: u32) -> Option<NumberedFile>
+    ensures { result ≡ numbered_at files.now number }
+{
+    let file = place_at(&files.files, number)?;
+    Some(NumberedFile { number, file })
+}
+
 /// Whether a descriptor names this open file.
 fn names(file: u32, descriptor: Option<Descriptor>) -> bool
     ensures { result ≡ names file descriptor }
@@ -81,10 +89,10 @@ fn is_named(files: &Files, file: u32) -> bool
 }
 
 /// Whether no descriptor and no hold names the open file any more.
-fn is_unnamed(files: &Files, file: u32, f: OpenFile) -> bool
-    ensures { result ≡ is_unnamed files.now file f }
+fn is_unnamed(files: &Files, f: NumberedFile) -> bool
+    ensures { result ≡ is_unnamed files.now f }
 {
-    f.holds == 0 && !is_named(files, file)
+    f.file.holds == 0 && !is_named(files, f.number)
 }
 
 /// Whether it is the read end of this pipe.
@@ -167,32 +175,39 @@ fn end_file(files: &mut Files, file: u32, kind: FileKind)
     end_kind(files, kind);
 }
 
-/// Ends the open file where nothing names it any more.
+/// Ends this open file where nothing names it any more.
+fn end_if_unnamed(files: &mut Files, f: NumberedFile)
+    ensures { files.new ≡ ended_if_unnamed files.old f }
+{
+    if is_unnamed(files, f) {
+        end_file(files, f.number, f.file.kind);
+    }
+}
+
+/// Ends the open file of this number, if there is one, where nothing names it any more.
 fn settle(files: &mut Files, file: u32)
     ensures { files.new ≡ closed_if_unnamed files.old file }
 {
-    if let Some(f) = place_at(&files.files, file) {
-        if is_unnamed(files, file, f) {
-            end_file(files, file, f.kind);
-        }
+    if let Some(f) = numbered_at(files, file) {
+        end_if_unnamed(files, f);
     }
 }
 
 /// One more call holds the open file, which stands so. `NoMemory`: one more hold can't be counted; then nothing changes.
-pub fn hold_once(files: &mut Files, file: u32, f: OpenFile) -> Result<(), NoMemory>
-    ensures ok { OnOk result (files.new ≡ with_hold files.old file f) }
+pub fn hold_once(files: &mut Files, f: NumberedFile) -> Result<(), NoMemory>
+    ensures ok { OnOk result (files.new ≡ with_hold files.old f) }
     ensures err { OnErr result (files.new ≡ files.old) }
-    ensures full { OnErr result (f.holds ≡ u32.MAX) }
+    ensures full { OnErr result (f.file.holds ≡ u32.MAX) }
 {
-    if f.holds == u32::MAX {
+    if f.file.holds == u32::MAX {
         return Err(NoMemory);
     }
     let held = OpenFile {
-        kind: f.kind,
-        nonblocking: f.nonblocking,
-        holds: f.holds + 1,
+        kind: f.file.kind,
+        nonblocking: f.file.nonblocking,
+        holds: f.file.holds + 1,
     };
-    set_place(&mut files.files, file, Some(held));
+    set_place(&mut files.files, f.number, Some(held));
     Ok(())
 }
 

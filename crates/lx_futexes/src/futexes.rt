@@ -1,5 +1,5 @@
 //! futex(2): its refusals at entry, its shape, and its steps.
-ghost use Rattle.std.specs.Prelude.{◌≡◌, ◌<◌, ◌^◌, Some, None, IfOk, IfErr, OnOk, OnErr};
+ghost use Rattle.std.specs.Prelude.{◌≡◌, ◌<◌, ◌^◌, length, Some, None, IfOk, IfErr, OnOk, OnErr};
 ghost use Rattle.lx_machine.specs.Calls.{first_refusal, low_argument};
 ghost use Rattle.lx_machine.specs.Futex.{after_wake_op, bit_set_refusals, compares, comparison_in, deadline_by, extended, futex_clocked, futex_fetched, futex_pieces, futex_refusals, futex_stage, has_clock_flag, has_second, has_time, is_negative, is_timed, is_unaligned_word, is_wait, leaves_queue, moves_on, operand_in, operated, operation_in, operation_number, operation_refusals, own_refusals, queued, requeue_of, requeue_refusals, requeue_releases, requeued, requeued_by, resumed, value_in, wait_expired, wait_from, wait_of, wake_of, wake_op_by, wake_op_refusals, wakes_after, with_wake_op, woken, word_operation_in};
 ghost use Rattle.lx_machine.specs.Queue.{queue_outcome};
@@ -332,6 +332,7 @@ pub fn queued(
 ) -> Result<(), NoMemory>
     ensures ok { OnOk result (queued pages.now tid queue.old call.old wait ≡ queue_outcome queue.new call.new) }
     ensures err { OnErr result ((queue.new ≡ queue.old) × (call.new ≡ call.old)) }
+    ensures full { OnErr result (length queue.old ≡ 32) }
 {
     match readable_word(pages, wait.at) {
         None => call.refuse(LinuxErrno::EFAULT),

@@ -35,10 +35,10 @@ size_some Half = omega arith
 size_some Word = omega arith
 size_some Double = omega arith
 
-size_16 : (s : Size) → size_bytes s ≤ 16
-size_16 s = omega (arith, size_small s)
+size_32 : (s : Size) → size_bytes s ≤ 32
+size_32 s = omega (arith, size_small s)
 
-pair_small : (k : PairKind) → 2 * pair_size k ≤ 16
+pair_small : (k : PairKind) → 2 * pair_size k ≤ 32
 pair_small pair.Double = omega arith
 pair_small pair.Word = omega arith
 pair_small pair.SignedWord = omega arith
@@ -57,11 +57,11 @@ aligned regs rn s a small =
     )
 
 moved : (regs : Regs) (s : Size) (t : Transfer) (rn rt : Reg) (at : ℕ) → AsksLittle (transferred regs s t rn rt at)
-moved regs s transfers.Store rn rt at = based regs rn _ (size_16 s)
+moved regs s transfers.Store rn rt at = based regs rn _ (size_32 s)
 moved regs s transfers.Prefetch rn rt at = tt
-moved regs s transfers.Load rn rt at = based regs rn _ (size_16 s)
-moved regs s transfers.LoadSigned64 rn rt at = based regs rn _ (size_16 s)
-moved regs s transfers.LoadSigned32 rn rt at = based regs rn _ (size_16 s)
+moved regs s transfers.Load rn rt at = based regs rn _ (size_32 s)
+moved regs s transfers.LoadSigned64 rn rt at = based regs rn _ (size_32 s)
+moved regs s transfers.LoadSigned32 rn rt at = based regs rn _ (size_32 s)
 
 literal_small : (k : LiteralKind) (at : ℕ) → IsSmall (literal_access k at)
 literal_small literal.Prefetch at = tt
@@ -82,12 +82,15 @@ asks_little regs (instr.LoadStoreIndexed i) = moved regs i.size i.transfer i.rn 
 asks_little regs (instr.LoadStoreRegister i) = moved regs i.size i.transfer i.rn i.rt _
 asks_little regs (instr.LoadLiteral i) = literal_small i.kind (literal_address regs i)
 asks_little regs (instr.LoadStorePair i) = based regs i.rn _ (pair_access_small regs i _)
-asks_little regs (instr.StoreExclusive i) = aligned regs i.rn i.size _ (size_16 i.size)
-asks_little regs (instr.LoadExclusive i) = aligned regs i.rn i.size _ (size_16 i.size)
-asks_little regs (instr.StoreOrdered i) = aligned regs i.rn i.size _ (size_16 i.size)
-asks_little regs (instr.LoadOrdered i) = aligned regs i.rn i.size _ (size_16 i.size)
+asks_little regs (instr.StoreExclusive i) = aligned regs i.rn i.size _ (size_32 i.size)
+asks_little regs (instr.LoadExclusive i) = aligned regs i.rn i.size _ (size_32 i.size)
+asks_little regs (instr.StoreOrdered i) = aligned regs i.rn i.size _ (size_32 i.size)
+asks_little regs (instr.LoadOrdered i) = aligned regs i.rn i.size _ (size_32 i.size)
 asks_little regs (instr.CompareSwap i) = aligned regs i.rn i.size _ (size_some i.size, size_small i.size)
 asks_little regs (instr.Atomic i) = aligned regs i.rn i.size _ (size_some i.size, size_small i.size)
+asks_little regs (instr.LoadStoreVector i) = based regs i.rn _ (one_of i.load _ _ (omega arith) (omega arith))
+asks_little regs (instr.LoadStoreVectorPair i) = based regs i.rn _ (one_of i.load _ _ (omega arith) (omega arith))
+asks_little regs (instr.Duplicate i) = tt
 asks_little regs instr.ClearExclusive = tt
 asks_little regs (instr.PcRelative i) = tt
 asks_little regs (instr.AddImmediate i) = tt

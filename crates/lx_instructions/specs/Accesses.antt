@@ -17,11 +17,11 @@ pub record Has (pages : Pages) (told : Told) (a : Answered) : Type 0 where
   pub pages_are : pages ≡ a.pages
   pub told_is : told ≡ record { mark = a.mark; answer = a.answer; at = a.at; written = a.written }
 
--- an access has at most 16 bytes, and an atomic one 1 to 8
+-- an access has at most 32 bytes, and an atomic one 1 to 8
 abbrev pub IsSmall : Access → Type 0
 IsSmall access.None = ⊤
-IsSmall (access.Load at len mark) = len ≤ 16
-IsSmall (access.Store at len bytes exclusive) = len ≤ 16
+IsSmall (access.Load at len mark) = len ≤ 32
+IsSmall (access.Store at len bytes exclusive) = len ≤ 32
 IsSmall (access.Swap at len op value expected) = (1 ≤ len) × (len ≤ 8)
 IsSmall access.ClearMark = ⊤
 

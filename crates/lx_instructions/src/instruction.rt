@@ -14,7 +14,6 @@ use a64_decode::decode;
 use a64_model::access::{Access, Next};
 use a64_model::instr::Instr;
 use a64_model::regs::Regs;
-use a64_step::{finish, need};
 use linux_abi::LinuxSig;
 use lx_calls::entry::enter;
 use lx_machine::buffer::NoMemory;
@@ -24,6 +23,7 @@ use lx_machine::threads::LxThread;
 use lx_memory::queries::is_allowed;
 use lx_memory::{Memory, Right};
 use std::alloc::Global;
+use vector_moves::every_row::{finish, need};
 
 /// How many bytes an instruction has written, from which address on.
 #[derive(Clone, Copy)]

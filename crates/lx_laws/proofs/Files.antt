@@ -1,7 +1,7 @@
 -- What the steps on files leave of the console rooms and of the epolls.
 use Rattle.std.proofs.Common.{◌≡◌, ℕ, true, ◌||◌, List, [], ◌∷◌, ◌++◌, Option, Some, None, refl, ap, ◌∙◌, sym, append_assoc, append-nil}
 use Rattle.lx_machine.specs.Epoll.{are_apart}
-use Rattle.lx_machine.specs.Files.{after_end_of, closed, closed_as, closed_if_unnamed_as, given_back, given_back_as, has_reader, has_writer, held_once_less, is_unnamed, without_file, without_pipe}
+use Rattle.lx_machine.specs.Files.{after_end_of, closed, closed_as, closed_if_unnamed_as, given_back, given_back_as, has_reader, has_writer, held_once_less, is_unnamed, numbered_at, without_file, without_pipe}
 use Rattle.lx_machine.specs.Interests.{armed_on, without_interests, without_those_in, is_elsewhere}
 use Rattle.lx_machine.specs.Lists.{at_place, with_place, without_place}
 use Rattle.lx_machine.specs.Write.{into_console}
@@ -10,6 +10,7 @@ use Rattle.lx_machine.specs.declared.files.FileKind.{FileKind}
 use Rattle.lx_machine.specs.declared.files.FileKind.TheVariants as kind
 use Rattle.lx_machine.specs.declared.files.Files.{Files}
 use Rattle.lx_machine.specs.declared.files.Interest.{Interest}
+use Rattle.lx_machine.specs.declared.files.NumberedFile.{NumberedFile}
 use Rattle.lx_machine.specs.declared.files.OpenFile.{OpenFile}
 use Rattle.lx_machine.specs.declared.label.LxSide.{LxSide}
 use Rattle.lx_machine.specs.declared.label.LxSide.TheVariants as side
@@ -98,14 +99,14 @@ no_file F file k =
     let G = record F { files = without_place F.files file } in
     and_then F (without_interests file G) (without_file F file k) (without_in file G) (after_end k (without_interests file G))
 
-ended : (F : Files) (file : ℕ) (o : Option OpenFile) → FilesTo F (closed_if_unnamed_as F file o)
-ended F file None = same F
-ended F file (Some f) = if_of (FilesTo F) (is_unnamed F file f) (without_file F file f.kind) F (no_file F file f.kind) (same F)
+ended : (F : Files) (o : Option NumberedFile) → FilesTo F (closed_if_unnamed_as F o)
+ended F None = same F
+ended F (Some f) = if_of (FilesTo F) (is_unnamed F f) (without_file F f.number f.file.kind) F (no_file F f.number f.file.kind) (same F)
 
 gave : (F : Files) (file : ℕ) (o : Option OpenFile) → FilesTo F (given_back_as F file o)
 gave F file None = same F
 gave F file (Some f) =
-    let G = record F { files = with_place F.files file (held_once_less f) } in ended G file (at_place G.files file)
+    let G = record F { files = with_place F.files file (held_once_less f) } in ended G (numbered_at G file)
 
 pub gave_back : (F : Files) (file : ℕ) → FilesTo F (given_back F file)
 gave_back F file = gave F file (at_place F.files file)
@@ -113,7 +114,7 @@ gave_back F file = gave F file (at_place F.files file)
 close_at : (F : Files) (number : ℕ) (o : Option Descriptor) → FilesTo F (closed_as F number o)
 close_at F number None = same F
 close_at F number (Some d) =
-    let G = record F { descriptors = without_place F.descriptors number } in ended G d.file (at_place G.files d.file)
+    let G = record F { descriptors = without_place F.descriptors number } in ended G (numbered_at G d.file)
 
 pub is_closed : (F : Files) (number : ℕ) → FilesTo F (closed F number)
 is_closed F number = close_at F number (at_place F.descriptors number)

@@ -72,7 +72,7 @@ abbrev pub last_tid : ℕ
 last_tid = 2 ^ 30 - 1
 
 abbrev pub no_regs : Regs
-no_regs = record { x = replicate 31 0; sp = 0; pc = 0; nzcv = 0; tpidr = 0 }
+no_regs = record { x = replicate 31 0; sp = 0; pc = 0; nzcv = 0; tpidr = 0; v = replicate 32 0 }
 
 abbrev pub no_stack : AltStack
 no_stack = record { at = 0; size = 0; enabled = false }

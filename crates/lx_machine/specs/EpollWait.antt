@@ -7,7 +7,7 @@ use Rattle.lx_machine.specs.Answers.{Goes}
 use Rattle.lx_machine.specs.Calls.{answered, answered_with, argument, low_argument, refused}
 use Rattle.lx_machine.specs.Descriptors.{FilesOutcome, files_outcome, refuses}
 use Rattle.lx_machine.specs.Epoll.{epoll_number, events, interests_of, is_answer, is_due, on_epoll}
-use Rattle.lx_machine.specs.Files.{given_back, with_hold}
+use Rattle.lx_machine.specs.Files.{given_back, numbered_at, with_hold}
 use Rattle.lx_machine.specs.Interests.{after_report}
 use Rattle.lx_machine.specs.Lists.{at_place, bind}
 use Rattle.lx_machine.specs.Pieces.{piece}
@@ -17,7 +17,7 @@ use Rattle.lx_machine.specs.declared.calls.Stage.{Stage}
 use Rattle.lx_machine.specs.declared.files.Descriptor.{Descriptor}
 use Rattle.lx_machine.specs.declared.files.Files.{Files}
 use Rattle.lx_machine.specs.declared.files.Interest.{Interest}
-use Rattle.lx_machine.specs.declared.files.OpenFile.{OpenFile}
+use Rattle.lx_machine.specs.declared.files.NumberedFile.{NumberedFile}
 use Rattle.lx_machine.specs.declared.label.Pick.{Pick}
 use Rattle.lx_machine.specs.declared.refusal.LxRefusal.{LxRefusal}
 use Rattle.lx_machine.specs.declared.refusal.LxRefusal.TheVariants.{NoMemory, NoStep}
@@ -70,16 +70,16 @@ with_timeout clock c = record c { deadline = Some (min (clock + 1000 * low_argum
 
 -- ---- epoll_pwait: Hold
 
-abbrev pub hold_epoll : Files → LxCall → ℕ → OpenFile → Option ℕ → FilesOutcome
-hold_epoll F c file f (Some n) = files_outcome (with_hold F file f) (record c { held = Some file })
-hold_epoll F c file f None = refuses F c errno.EINVAL
+abbrev pub hold_epoll : Files → LxCall → NumberedFile → Option ℕ → FilesOutcome
+hold_epoll F c f (Some n) = files_outcome (with_hold F f) (record c { held = Some f.number })
+hold_epoll F c f None = refuses F c errno.EINVAL
 
-abbrev pub epoll_held_file : Files → LxCall → ℕ → Option OpenFile → FilesOutcome
-epoll_held_file F c file (Some f) = hold_epoll F c file f (epoll_number f.kind)
-epoll_held_file F c file None = refuses F c errno.EBADF
+abbrev pub epoll_held_file : Files → LxCall → Option NumberedFile → FilesOutcome
+epoll_held_file F c (Some f) = hold_epoll F c f (epoll_number f.file.kind)
+epoll_held_file F c None = refuses F c errno.EBADF
 
 abbrev pub epoll_held_as : Files → LxCall → Option Descriptor → FilesOutcome
-epoll_held_as F c (Some d) = epoll_held_file F c d.file (at_place F.files d.file)
+epoll_held_as F c (Some d) = epoll_held_file F c (numbered_at F d.file)
 epoll_held_as F c None = refuses F c errno.EBADF
 
 -- the epoll of the first argument is held, or the call is refused

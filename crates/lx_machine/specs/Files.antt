@@ -4,16 +4,26 @@
 -- pipe(2), eventfd(2), epoll(7).
 use Rattle.std.proofs.Math.Bool.{not}
 use Rattle.std.specs.List.{list_any}
+use Rattle.std.specs.Option.{option_map}
 use Rattle.std.specs.Prelude.{Bool, List, None, Option, Some, [], false, if◌then◌else◌, ℕ, ◌&&◌, ◌+◌, ◌-◌, ◌==◌, ◌||◌}
 use Rattle.lx_machine.specs.Interests.{armed_on, without_interests}
 use Rattle.lx_machine.specs.Lists.{at_place, with_place, without_place}
 use Rattle.lx_machine.specs.declared.files.Descriptor.{Descriptor}
 use Rattle.lx_machine.specs.declared.files.FileKind.{FileKind}
 use Rattle.lx_machine.specs.declared.files.Files.{Files}
+use Rattle.lx_machine.specs.declared.files.NumberedFile.{NumberedFile}
 use Rattle.lx_machine.specs.declared.files.OpenFile.{OpenFile}
 use Rattle.lx_machine.specs.declared.files.FileKind.TheVariants as kind
 
 -- ---- what is open
+
+-- an open file with its number
+abbrev pub numbered : ℕ → OpenFile → NumberedFile
+numbered number f = record { number = number; file = f }
+
+-- the open file of this number, if there is one
+abbrev pub numbered_at : Files → ℕ → Option NumberedFile
+numbered_at F number = option_map (numbered number) (at_place F.files number)
 
 -- a descriptor names this open file
 abbrev pub names : ℕ → Option Descriptor → Bool
@@ -21,8 +31,8 @@ names file None = false
 names file (Some d) = d.file == file
 
 -- an open file that no descriptor and no hold names any more
-abbrev pub is_unnamed : Files → ℕ → OpenFile → Bool
-is_unnamed F file f = (f.holds == 0) && not (list_any (names file) F.descriptors)
+abbrev pub is_unnamed : Files → NumberedFile → Bool
+is_unnamed F f = (f.file.holds == 0) && not (list_any (names f.number) F.descriptors)
 
 abbrev pub is_read_end : ℕ → FileKind → Bool
 is_read_end pipe (kind.PipeRead p) = p == pipe
@@ -67,15 +77,15 @@ abbrev pub without_file : Files → ℕ → FileKind → Files
 without_file F file k = after_end_of k (without_interests file (record F { files = without_place F.files file }))
 
 -- the open file ends where nothing names it any more
-abbrev pub ended_if_unnamed : Files → ℕ → OpenFile → Files
-ended_if_unnamed F file f = if is_unnamed F file f then without_file F file f.kind else F
+abbrev pub ended_if_unnamed : Files → NumberedFile → Files
+ended_if_unnamed F f = if is_unnamed F f then without_file F f.number f.file.kind else F
 
-abbrev pub closed_if_unnamed_as : Files → ℕ → Option OpenFile → Files
-closed_if_unnamed_as F file None = F
-closed_if_unnamed_as F file (Some f) = ended_if_unnamed F file f
+abbrev pub closed_if_unnamed_as : Files → Option NumberedFile → Files
+closed_if_unnamed_as F None = F
+closed_if_unnamed_as F (Some f) = ended_if_unnamed F f
 
 abbrev pub closed_if_unnamed : Files → ℕ → Files
-closed_if_unnamed F file = closed_if_unnamed_as F file (at_place F.files file)
+closed_if_unnamed F file = closed_if_unnamed_as F (numbered_at F file)
 
 -- ---- holds
 
@@ -86,8 +96,8 @@ abbrev pub held_once_less : OpenFile → OpenFile
 held_once_less f = record f { holds = f.holds - 1 }
 
 -- a call holds the open file
-abbrev pub with_hold : Files → ℕ → OpenFile → Files
-with_hold F file f = record F { files = with_place F.files file (held_once_more f) }
+abbrev pub with_hold : Files → NumberedFile → Files
+with_hold F f = record F { files = with_place F.files f.number (held_once_more f.file) }
 
 -- a call gives the open file back
 abbrev pub given_back_as : Files → ℕ → Option OpenFile → Files

@@ -4,7 +4,8 @@ use Rattle.std.specs.Prelude.{Bool, Err, None, Ok, Option, Result, Some, if◌th
 use Rattle.linux_abi.specs.LinuxErrno.{answer_of}
 use Rattle.lx_machine.specs.Answers.{Goes}
 use Rattle.linux_abi.specs.declared.signals.TheConstants.{SI_USER}
-use Rattle.lx_machine.specs.Lists.{at_place, bind}
+use Rattle.lx_machine.specs.Files.{numbered_at}
+use Rattle.lx_machine.specs.Lists.{bind}
 use Rattle.lx_machine.specs.Read.{read_move}
 use Rattle.lx_machine.specs.Signal.{sent, sent_by}
 use Rattle.lx_machine.specs.Threads.{in_call_of}
@@ -12,7 +13,7 @@ use Rattle.lx_machine.specs.Transfers.{TransferOutcome, ends_with, hold_given_ba
 use Rattle.lx_machine.specs.Write.{write_move}
 use Rattle.lx_machine.specs.declared.calls.LxCall.{LxCall}
 use Rattle.lx_machine.specs.declared.files.Files.{Files}
-use Rattle.lx_machine.specs.declared.files.OpenFile.{OpenFile}
+use Rattle.lx_machine.specs.declared.files.NumberedFile.{NumberedFile}
 use Rattle.lx_machine.specs.declared.refusal.LxRefusal.{LxRefusal}
 use Rattle.lx_machine.specs.declared.refusal.LxRefusal.TheVariants.{NoMemory, NoStep}
 use Rattle.lx_machine.specs.declared.signals.SigInfo.{SigInfo}
@@ -24,11 +25,11 @@ use Rattle.linux_abi.specs.declared.signals.LinuxSig.TheVariants as signal
 -- ---- writes
 
 -- the bytes between a transfer and its open file
-abbrev pub move_file : Files → LxCall → ℕ → OpenFile → Option TransferOutcome
-move_file F c file f = if is_read c then read_move F c file f f.kind else write_move F c file f f.kind
+abbrev pub move_file : Files → LxCall → NumberedFile → Option TransferOutcome
+move_file F c f = if is_read c then read_move F c f f.file.kind else write_move F c f f.file.kind
 
 abbrev pub transferred : Files → LxCall → Option TransferOutcome
-transferred F c = bind c.held (λ file. bind (at_place F.files file) (move_file F c file))
+transferred F c = bind c.held (λ file. bind (numbered_at F file) (move_file F c))
 
 -- Move has a step
 abbrev pub can_transfer : Files → LxCall → Bool

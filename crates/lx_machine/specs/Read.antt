@@ -11,7 +11,7 @@ use Rattle.lx_machine.specs.declared.calls.LxCall.{LxCall}
 use Rattle.lx_machine.specs.declared.files.Counter.{Counter}
 use Rattle.lx_machine.specs.declared.files.FileKind.{FileKind}
 use Rattle.lx_machine.specs.declared.files.Files.{Files}
-use Rattle.lx_machine.specs.declared.files.OpenFile.{OpenFile}
+use Rattle.lx_machine.specs.declared.files.NumberedFile.{NumberedFile}
 use Rattle.places.specs.Places.{bytes_of}
 use Rattle.linux_abi.specs.declared.errno.LinuxErrno.TheVariants as errno
 use Rattle.lx_machine.specs.declared.files.FileKind.TheVariants as kind
@@ -29,11 +29,11 @@ reads_bytes F c file bytes = Some (gives_back F (answered_with c (length bytes) 
 
 -- a read from a pipe that holds these bytes, which arms the interests in its write end: none held is the end where no
 -- writer is left
-abbrev pub read_pipe : Files → LxCall → ℕ → OpenFile → ℕ → List ℕ → Option TransferOutcome
-read_pipe F c file f p [] = if has_writer F p then waits F c file f else ends_with F c file 0
-read_pipe F c file f p (b ∷ bs) =
+abbrev pub read_pipe : Files → LxCall → NumberedFile → ℕ → List ℕ → Option TransferOutcome
+read_pipe F c f p [] = if has_writer F p then waits F c f else ends_with F c f.number 0
+read_pipe F c f p (b ∷ bs) =
     let most = total c.pieces in
-    reads_bytes (armed_on (kind.PipeWrite p) (with_pipe F p (drop most (b ∷ bs)))) c file (take most (b ∷ bs))
+    reads_bytes (armed_on (kind.PipeWrite p) (with_pipe F p (drop most (b ∷ bs)))) c f.number (take most (b ∷ bs))
 
 -- a read from the input
 abbrev pub read_input : Files → LxCall → ℕ → Option TransferOutcome
@@ -52,20 +52,20 @@ counted_down n = record n { value = n.value - counted n }
 abbrev pub with_counter : Files → ℕ → Counter → Files
 with_counter F number n = armed_on (kind.Counter number) (record F { counters = with_place F.counters number n })
 
-abbrev pub read_counter : Files → LxCall → ℕ → OpenFile → ℕ → Counter → Option TransferOutcome
-read_counter F c file f number n =
-    if nat_lt (total c.pieces) 8 then ends_refused F c file errno.EINVAL else (
-    if n.value == 0 then waits F c file f else reads_bytes (with_counter F number (counted_down n)) c file (bytes_of (counted n) 8))
+abbrev pub read_counter : Files → LxCall → NumberedFile → ℕ → Counter → Option TransferOutcome
+read_counter F c f number n =
+    if nat_lt (total c.pieces) 8 then ends_refused F c f.number errno.EINVAL else (
+    if n.value == 0 then waits F c f else reads_bytes (with_counter F number (counted_down n)) c f.number (bytes_of (counted n) 8))
 
 -- a read of no bytes answers 0, except on a counter
 abbrev pub unless_empty : ℕ → Files → LxCall → ℕ → Option TransferOutcome → Option TransferOutcome
 unless_empty count F c file next = if count == 0 then ends_with F c file 0 else next
 
-abbrev pub read_move : Files → LxCall → ℕ → OpenFile → FileKind → Option TransferOutcome
-read_move F c file f (kind.Counter n) = bind (at_place F.counters n) (read_counter F c file f n)
-read_move F c file f kind.Input = unless_empty (total c.pieces) F c file (read_input F c file)
-read_move F c file f (kind.PipeRead p) = unless_empty (total c.pieces) F c file (bind (at_place F.pipes p) (read_pipe F c file f p))
-read_move F c file f _ = None
+abbrev pub read_move : Files → LxCall → NumberedFile → FileKind → Option TransferOutcome
+read_move F c f (kind.Counter n) = bind (at_place F.counters n) (read_counter F c f n)
+read_move F c f kind.Input = unless_empty (total c.pieces) F c f.number (read_input F c f.number)
+read_move F c f (kind.PipeRead p) = unless_empty (total c.pieces) F c f.number (bind (at_place F.pipes p) (read_pipe F c f p))
+read_move F c f _ = None
 
 -- ---- shape
 

@@ -4,6 +4,7 @@ use Rattle.std.proofs.Math.Bool.{not}
 use Rattle.std.specs.Int.{cast_unsigned, w32}
 use Rattle.std.specs.Option.{option_map}
 use Rattle.std.specs.Prelude.{Bool, Err, List, None, Ok, Option, Result, Some, [], bit_or, if◌then◌else◌, nat_lt, replicate, slice_index, slice_set, true, ℕ, ◌&&◌, ◌*◌, ◌++◌, ◌+◌, ◌-◌, ◌/◌, ◌^◌, ◌||◌, ◌∷◌, ◌≡◌}
+use Rattle.a64_model.specs.VectorRecord.{vector_record}
 use Rattle.a64_model.specs.declared.regs.Regs.{Regs}
 use Rattle.linux_abi.specs.LinuxSig.{linux_bit, signal_number}
 use Rattle.linux_abi.specs.SigAction.{has_restorer, is_not_deferred, wants_info, wants_stack}
@@ -86,19 +87,20 @@ abbrev pub context_words : ℕ → AltStack → ℕ → SigInfo → List ℕ
 context_words sp stack mask info =
     0 ∷ 0 ∷ stack.at ∷ stack_flags sp stack ∷ stack.size ∷ mask ∷ (replicate 16 0 ++ fault_address info.origin ∷ [])
 
--- sp at 432, pc at 440, and pstate at 448, whose bits 31 to 28 are the flags
+-- sp at 432, pc at 440, and pstate at 448, whose bits 31 to 28 are the flags; the records begin at 464
 abbrev pub last_words : Regs → List ℕ
-last_words regs = regs.sp ∷ regs.pc ∷ regs.nzcv * 2 ^ 28 ∷ []
+last_words regs = regs.sp ∷ regs.pc ∷ regs.nzcv * 2 ^ 28 ∷ 0 ∷ []
 
 -- the frame record: x29 and x30
 abbrev pub record_words : Regs → List ℕ
 record_words regs = slice_index regs.x 29 ∷ slice_index regs.x 30 ∷ []
 
--- the frame and its record: siginfo, ucontext with x0 to x30 at 184, zeros, and the record
+-- the frame and its record: siginfo, ucontext with x0 to x30 at 184 and the record of the vector registers at 464, zeros (which
+-- at 992 are the record that ends the records), and the frame record
 abbrev pub frame_bytes : Regs → AltStack → ℕ → SigInfo → List ℕ
 frame_bytes regs stack mask info =
     words (info_words info) ++ words (context_words regs.sp stack mask info) ++ words regs.x ++ words (last_words regs) ++
-    words (replicate 513 0) ++ words (record_words regs)
+    vector_record regs.v ++ words (replicate 446 0) ++ words (record_words regs)
 
 -- ---- the thread in its handler
 

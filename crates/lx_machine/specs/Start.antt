@@ -106,7 +106,7 @@ first_files input = record {
 
 abbrev pub first_regs : Image → List ℕ → List (List ℕ) → Regs
 first_regs image name arguments =
-    record { x = replicate 31 0; sp = table_at (headers_of image) name arguments; pc = image.entry; nzcv = 0; tpidr = 0 }
+    record { x = replicate 31 0; sp = table_at (headers_of image) name arguments; pc = image.entry; nzcv = 0; tpidr = 0; v = replicate 32 0 }
 
 abbrev pub first_thread : Regs → LxThread
 first_thread regs = record {

@@ -8,12 +8,13 @@ use Rattle.linux_abi.specs.LinuxErrno.{answer_of}
 use Rattle.linux_abi.specs.declared.calls.Call.{Call}
 use Rattle.linux_abi.specs.declared.errno.LinuxErrno.{LinuxErrno}
 use Rattle.lx_machine.specs.Calls.{answered, argument, low_argument, refused}
-use Rattle.lx_machine.specs.Files.{given_back, with_hold}
+use Rattle.lx_machine.specs.Files.{given_back, numbered_at, with_hold}
 use Rattle.lx_machine.specs.Lists.{at_place, bind}
 use Rattle.lx_machine.specs.declared.calls.LxCall.{LxCall}
 use Rattle.lx_machine.specs.declared.files.Descriptor.{Descriptor}
 use Rattle.lx_machine.specs.declared.files.FileKind.{FileKind}
 use Rattle.lx_machine.specs.declared.files.Files.{Files}
+use Rattle.lx_machine.specs.declared.files.NumberedFile.{NumberedFile}
 use Rattle.lx_machine.specs.declared.files.OpenFile.{OpenFile}
 use Rattle.linux_abi.specs.declared.calls.Call.TheVariants as call
 use Rattle.linux_abi.specs.declared.errno.LinuxErrno.TheVariants as errno
@@ -56,16 +57,16 @@ direction_refusal false (kind.Console which) = None
 direction_refusal false (kind.PipeWrite p) = None
 direction_refusal false _ = Some errno.EBADF
 
-abbrev pub hold_unless : Files → LxCall → ℕ → OpenFile → Option LinuxErrno → TransferOutcome
-hold_unless F c file f (Some e) = transfer_refused F c e
-hold_unless F c file f None = transfer_outcome (with_hold F file f) (record c { held = Some file })
+abbrev pub hold_unless : Files → LxCall → NumberedFile → Option LinuxErrno → TransferOutcome
+hold_unless F c f (Some e) = transfer_refused F c e
+hold_unless F c f None = transfer_outcome (with_hold F f) (record c { held = Some f.number })
 
-abbrev pub hold_file : Files → LxCall → ℕ → Option OpenFile → TransferOutcome
-hold_file F c file (Some f) = hold_unless F c file f (direction_refusal (is_read c) f.kind)
-hold_file F c file None = transfer_refused F c errno.EBADF
+abbrev pub hold_file : Files → LxCall → Option NumberedFile → TransferOutcome
+hold_file F c (Some f) = hold_unless F c f (direction_refusal (is_read c) f.file.kind)
+hold_file F c None = transfer_refused F c errno.EBADF
 
 abbrev pub hold_descriptor : Files → LxCall → Option Descriptor → TransferOutcome
-hold_descriptor F c (Some d) = hold_file F c d.file (at_place F.files d.file)
+hold_descriptor F c (Some d) = hold_file F c (numbered_at F d.file)
 hold_descriptor F c None = transfer_refused F c errno.EBADF
 
 -- the open file of the first argument is held, or the call is refused
@@ -106,8 +107,8 @@ abbrev pub ends_refused : Files → LxCall → ℕ → LinuxErrno → Option Tra
 ends_refused F c file e = ends_with F c file (answer_of e)
 
 -- a move that has to wait: it has no step, unless the open file is nonblocking
-abbrev pub waits : Files → LxCall → ℕ → OpenFile → Option TransferOutcome
-waits F c file f = if f.nonblocking then ends_refused F c file errno.EAGAIN else None
+abbrev pub waits : Files → LxCall → NumberedFile → Option TransferOutcome
+waits F c f = if f.file.nonblocking then ends_refused F c f.number errno.EAGAIN else None
 
 -- ---- shape
 

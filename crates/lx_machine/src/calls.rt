@@ -7,6 +7,7 @@ use crate::buffer::{Bytes, NoMemory};
 use crate::death::Death;
 use crate::futexes::{Mark, Requeue, Wait, Wake, WakeOp};
 use crate::signals::SigInfo;
+use crate::state::Slot;
 use linux_abi::{LinuxErrno, answer};
 use std::alloc::Global;
 use std::marker::Model;
@@ -99,7 +100,7 @@ pub struct LxCall {
     pub held: Option<u32>,
     pub deadline: Option<u64>,
     pub waits: bool,
-    pub child: Option<u8>,
+    pub child: Option<Slot>,
     pub death: Option<Death>,
     pub result: Option<u64>,
     pub kept: Option<SigInfo>,

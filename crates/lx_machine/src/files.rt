@@ -34,6 +34,13 @@ pub struct OpenFile {
     pub holds: u32,
 }
 
+/// An open file with its number.
+#[derive(Clone, Copy)]
+pub struct NumberedFile {
+    pub number: u32,
+    pub file: OpenFile,
+}
+
 /// A descriptor: its open file's number, and its close-on-exec flag.
 #[derive(Clone, Copy)]
 pub struct Descriptor {

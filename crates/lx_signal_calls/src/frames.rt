@@ -2,6 +2,7 @@
 ghost use Rattle.std.specs.Prelude.{◌≡◌, ◌≤◌, ◌<◌, ◌+◌, ◌*◌, ◌^◌, ◌++◌, length, true, IfSome};
 ghost use Rattle.places.specs.Places.{bytes_of};
 ghost use Rattle.arrayvec.specs.ArrayVec.{array_vec_len};
+ghost use Rattle.a64_model.specs.VectorRecord.{vector_record};
 ghost use Rattle.lx_memory.specs.Bytes.{with_bytes, IsMapped};
 ghost use Rattle.lx_machine.specs.SignalFrame.{Frames, context_words, doomed, fault_address, frame_at, frame_below, frame_bytes, frame_of, frame_top, framed, handler_mask, handler_regs, if_writable, in_handler, info_words, is_writable, origin_word, place_below, record_at, restorer, storable_place, with_arguments, words};
 
@@ -17,6 +18,7 @@ use lx_machine::threads::{AltStack, LxThread};
 use lx_memory::queries::is_allowed;
 use lx_memory::{Memory, Right};
 use lx_signals::taking::own_mask;
+use vector_moves::frame_record;
 
 /// The bytes of a frame, without its record.
 const FRAME: u64 = 4688;
@@ -142,6 +144,15 @@ fn push_words(frame: &mut ArrayVec<u8, FRAME_SIZE>, numbers: &[u64])
     }
 }
 
+/// Appends the record of the vector registers.
+fn push_vectors(frame: &mut ArrayVec<u8, FRAME_SIZE>, regs: &Regs)
+    requires { array_vec_len frame.old + 528 ≤ 4704 }
+    ensures items { frame.new.items ≡ frame.old.items ++ vector_record regs.now.v }
+    ensures len { array_vec_len frame.new ≡ array_vec_len frame.old + 528 }
+{
+    let _ = frame.try_extend_from_slice(&frame_record(regs));
+}
+
 /// The frame of a signal and its record: the registers and the alternative stack as they are, and the mask that is stored.
 fn frame_of(regs: &Regs, stack: AltStack, mask: u64, info: SigInfo) -> ArrayVec<u8, FRAME_SIZE>
     ensures items { result.items ≡ frame_bytes regs.now stack mask info }
@@ -153,9 +164,10 @@ fn frame_of(regs: &Regs, stack: AltStack, mask: u64, info: SigInfo) -> ArrayVec<
     push_words(&mut frame, &regs.x);
     push_words(
         &mut frame,
-        &[regs.sp, regs.pc, u64::from(regs.nzcv) * (1 << 28)],
+        &[regs.sp, regs.pc, u64::from(regs.nzcv) * (1 << 28), 0],
     );
-    push_words(&mut frame, &[0; 513]);
+    push_vectors(&mut frame, regs);
+    push_words(&mut frame, &[0; 446]);
     push_words(&mut frame, &[regs.x[29], regs.x[30]]);
     frame
 }

@@ -19,7 +19,7 @@ fn byte(bytes: &[u8], at: usize) -> u8
 }
 
 /// The bytes from a place on.
-fn rest(bytes: &[u8], at: usize) -> &[u8]
+pub(crate) fn rest(bytes: &[u8], at: usize) -> &[u8]
     ensures { result.now ≡ drop at bytes.now }
 {
     if at < bytes.len() { &bytes[at..] } else { &[] }

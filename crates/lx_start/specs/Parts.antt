@@ -29,7 +29,7 @@ space_with image stack = record {
 }
 
 abbrev pub regs_with : ℕ → ℕ → Regs
-regs_with sp pc = record { x = replicate 31 0; sp = sp; pc = pc; nzcv = 0; tpidr = 0 }
+regs_with sp pc = record { x = replicate 31 0; sp = sp; pc = pc; nzcv = 0; tpidr = 0; v = replicate 32 0 }
 
 abbrev pub state_with : Image → FirstStack → List ℕ → LinuxState
 state_with image stack input = record {

@@ -267,6 +267,7 @@ fn first_regs(sp: u64, pc: u64) -> Regs
         pc,
         nzcv: 0,
         tpidr: 0,
+        v: [0; 32],
     }
 }
 

@@ -1,6 +1,6 @@
 -- Effect of a call of all threads: the call is taken out of its thread, which stays in its place, and is put back.
 use Rattle.std.proofs.Common.{◌≡◌, ℕ, zero, suc, List, [], ◌∷◌, Option, Some, None, slice_set, refl, ap, subst, sym, ◌∙◌, Result}
-use Rattle.std.specs.Prelude.{slice_get, Ok, Err}
+use Rattle.std.specs.Prelude.{false, slice_get, Ok, Err}
 use Rattle.std.specs.Option.{option_map}
 use Rattle.linux_abi.specs.Call.{call_of}
 use Rattle.lx_machine.specs.Lists.{at_place, bind}
@@ -20,7 +20,12 @@ use Rattle.lx_step.specs.Outcomes.{WholeGoes}
 use Rattle.lx_step.specs.Wholes.{whole_at, taken_at, taken_of, taken_from, call_out}
 use Rattle.lx_machine.specs.declared.refusal.LxRefusal.{LxRefusal}
 use Rattle.lx_machine.specs.declared.refusal.LxRefusal.TheVariants.{NoStep, NoMemory}
-use Rattle.lx_step.specs.Steps.{Steps}
+use Rattle.lx_step.specs.Steps.{IsDecided, Steps}
+use Rattle.lx_step.specs.Wants.{WantsIn, effect_makes, in_call_may_want, may_want_at}
+use Rattle.lx_machine.specs.declared.files.Files.{Files}
+use Rattle.lx_machine.specs.declared.label.Label.TheVariants as label
+use Rattle.lx_machine.specs.declared.threads.LxWaiter.{LxWaiter}
+use Rattle.std.specs.Bool.{OnFalse}
 use Rattle.lx_step.proofs.PutBack.{call_back}
 use Rattle.lx_step.specs.declared.whole_steps.Taken.{Taken}
 
@@ -189,3 +194,24 @@ ends L L1 L2 s k c2 threads2 result is out_is goes put =
     subst (λ (threads : List (Option LxThread)). Steps (in_call L s whole_effect_at) L (record L2 { threads = threads }) result) (sym put)
     (ended L L2 s k c2 result is
     (subst (λ (M : LinuxState). WholeGoes (whole_at (stage_of k.call) M k.mask k.robust_head k.call) M L2 k.call c2 result) out_is goes))
+
+-- ---- want of memory
+
+wants_call : (n : ℕ) (F : Files) (ws : List LxWaiter) (t : LxThread) (o : Option LxCall) (k : Taken) (r : Result (Unit {0}) LxRefusal)
+    → option_map (taken_from t) o ≡ Some k → OnFalse (effect_makes (call_of k.call.number)) (IsDecided r)
+    → OnFalse (in_call_may_want (label.Effect n false) F ws o) (IsDecided r)
+wants_call n F ws t None k r is h = cc
+wants_call n F ws t (Some c) k r is h =
+    let same : k ≡ taken_from t c = cc in
+    subst (λ (taken : Taken). OnFalse (effect_makes (call_of taken.call.number)) (IsDecided r)) same h
+
+wants_place : (L : LinuxState) (n : ℕ) (p : Option LxThread) (k : Taken) (r : Result (Unit {0}) LxRefusal)
+    → bind p taken_of ≡ Some k → OnFalse (effect_makes (call_of k.call.number)) (IsDecided r)
+    → OnFalse (may_want_at (label.Effect n false) L p) (IsDecided r)
+wants_place L n None k r is h = cc
+wants_place L n (Some t) k r is h = wants_call n L.files L.queue t t.call k r is h
+
+-- an effect on all threads wants memory only by its call
+pub wants : (L : LinuxState) (n s : ℕ) (k : Taken) (r : Result (Unit {0}) LxRefusal)
+    → taken_at L.threads s ≡ Some k → OnFalse (effect_makes (call_of k.call.number)) (IsDecided r) → WantsIn L (label.Effect n false) s r
+wants L n s k r is h = wants_place L n (at_place L.threads s) k r is h

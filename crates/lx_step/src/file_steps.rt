@@ -1,13 +1,16 @@
 //! Hold, Drop and Move, of a transfer and of an epoll; and the effects of calls on descriptors.
-ghost use Rattle.std.specs.Prelude.{◌≡◌, true, if◌then◌else◌};
+ghost use Rattle.std.specs.Bool.{OnFalse};
+ghost use Rattle.std.specs.Prelude.{◌≡◌, Some, true, if◌then◌else◌};
 ghost use Rattle.lx_machine.specs.Signal.{can_be_sent, sent};
 ghost use Rattle.lx_machine.specs.Step as machine;
 ghost use Rattle.lx_step.specs.Effects.{files_part};
 ghost use Rattle.lx_machine.specs.Table.{rules};
+ghost use Rattle.lx_machine.specs.Transfers.{has_most_holds};
 ghost use Rattle.lx_machine.specs.Move.{broken_pipe};
 ghost use Rattle.lx_machine.specs.Waits.{move};
 ghost use Rattle.lx_step.specs.Outcomes.{CallGoes, move_of_transfer};
 ghost use Rattle.lx_step.specs.Steps.{IsDecided};
+ghost use Rattle.lx_step.specs.Wants.{effect_makes};
 
 use linux_abi::signals::SI_USER;
 use linux_abi::{Call, LinuxSig};
@@ -17,7 +20,7 @@ use lx_machine::calls::{LxCall, Stage};
 use lx_machine::label::Picks;
 use lx_machine::refusal::LxRefusal;
 use lx_machine::signals::{Action, Pending, SigInfo};
-use lx_machine::state::LinuxState;
+use lx_machine::state::{LinuxState, Slot};
 use lx_machine::threads::LxThread;
 use lx_signals::sending::{can_be_sent, send, sent_by};
 use lx_transfers::transfers;
@@ -26,12 +29,13 @@ use std::alloc::Global;
 /// Hold: the open file of a transfer, or the epoll of a wait, is found and held, or the call is refused.
 pub fn hold(
     state: &mut LinuxState,
-    slot: u8,
+    slot: Slot,
     thread: &LxThread,
     call: &mut LxCall,
     stage: Stage,
 ) -> Result<(), LxRefusal>
-    ensures { CallGoes (machine.hold stage state.old slot thread.now call.old) state.old state.new slot thread.now thread.now call.old call.new result }
+    ensures goes { CallGoes (machine.hold stage state.old slot thread.now call.old) state.old state.new slot thread.now thread.now call.old call.new result }
+    ensures full { OnFalse (has_most_holds state.old.files call.old) (IsDecided result) }
 {
     let Stage::Hold = stage else {
         return Err(LxRefusal::NoStep);
@@ -46,7 +50,7 @@ pub fn hold(
 /// Drop: the hold is given back.
 pub fn give_back(
     state: &mut LinuxState,
-    slot: u8,
+    slot: Slot,
     thread: &LxThread,
     call: &mut LxCall,
     stage: Stage,
@@ -81,7 +85,7 @@ fn break_pipe(actions: &[Action; 64], pending: &mut Pending, broken: bool)
 fn move_transfer(
     state: &mut LinuxState,
     alloc: Global,
-    slot: u8,
+    slot: Slot,
     thread: &mut LxThread,
     call: &mut LxCall,
 ) -> Result<(), LxRefusal>
@@ -99,7 +103,7 @@ fn move_transfer(
 fn move_as(
     state: &mut LinuxState,
     alloc: Global,
-    slot: u8,
+    slot: Slot,
     thread: &mut LxThread,
     call: &mut LxCall,
     picks: &Picks,
@@ -117,7 +121,7 @@ fn move_as(
 pub fn move_bytes(
     state: &mut LinuxState,
     alloc: Global,
-    slot: u8,
+    slot: Slot,
     thread: &mut LxThread,
     call: &mut LxCall,
     stage: Stage,
@@ -135,12 +139,13 @@ pub fn move_bytes(
 pub(crate) fn effect(
     state: &mut LinuxState,
     alloc: Global,
-    slot: u8,
+    slot: Slot,
     thread: &LxThread,
     call: &mut LxCall,
     kind: Call,
 ) -> Result<(), LxRefusal>
-    ensures { CallGoes (files_part (rules kind).effect state.old slot thread.now call.old) state.old state.new slot thread.now thread.now call.old call.new result }
+    ensures goes { CallGoes (files_part (rules kind).effect state.old slot thread.now call.old) state.old state.new slot thread.now thread.now call.old call.new result }
+    ensures decided { OnFalse (effect_makes (Some kind)) (IsDecided result) }
 {
     let files = &mut state.files;
     match kind {

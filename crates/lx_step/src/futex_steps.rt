@@ -1,5 +1,6 @@
 //! Queue, Requeue, WakeOp, Release and Resume: the steps of futexes (futex(2)); and Mark, of a death (get_robust_list(2)).
-ghost use Rattle.std.specs.Prelude.{◌≡◌};
+ghost use Rattle.std.specs.Bool.{OnFalse};
+ghost use Rattle.std.specs.Prelude.{◌≡◌, ◌==◌, length};
 ghost use Rattle.lx_machine.specs.Step as machine;
 ghost use Rattle.lx_machine.specs.Futex.{woken};
 ghost use Rattle.lx_machine.specs.Table.{rules_of};
@@ -16,19 +17,20 @@ use lx_machine::calls::{LxCall, Stage};
 use lx_machine::futexes::{Mark, Wake};
 use lx_machine::queue::Queue;
 use lx_machine::refusal::LxRefusal;
-use lx_machine::state::LinuxState;
+use lx_machine::state::{LinuxState, Slot};
 use lx_machine::threads::LxThread;
 use std::alloc::Global;
 
 /// Queue: the word is compared, and the thread queues.
 pub fn queue(
     state: &mut LinuxState,
-    slot: u8,
+    slot: Slot,
     thread: &LxThread,
     call: &mut LxCall,
     stage: Stage,
 ) -> Result<(), LxRefusal>
-    ensures { CallGoes (machine.queue stage state.old slot thread.now call.old) state.old state.new slot thread.now thread.now call.old call.new result }
+    ensures goes { CallGoes (machine.queue stage state.old slot thread.now call.old) state.old state.new slot thread.now thread.now call.old call.new result }
+    ensures full { OnFalse (length state.old.queue == 32) (IsDecided result) }
 {
     match stage {
         Stage::Queue(wait) => {
@@ -42,7 +44,7 @@ pub fn queue(
 /// Requeue: waiters are released, and others move to another word.
 pub fn requeue(
     state: &mut LinuxState,
-    slot: u8,
+    slot: Slot,
     thread: &LxThread,
     call: &mut LxCall,
     stage: Stage,
@@ -62,7 +64,7 @@ pub fn requeue(
 /// WakeOp: a word changes, and waiters are released at two words. What is written ends the marks of other threads.
 pub fn wake_op(
     state: &mut LinuxState,
-    slot: u8,
+    slot: Slot,
     thread: &LxThread,
     call: &mut LxCall,
     stage: Stage,
@@ -96,7 +98,7 @@ fn release_waiters(queue: &mut Queue, call: &mut LxCall, wake: Wake)
 /// Release: waiters are released.
 pub fn release(
     state: &mut LinuxState,
-    slot: u8,
+    slot: Slot,
     thread: &LxThread,
     call: &mut LxCall,
     stage: Stage,
@@ -116,7 +118,7 @@ pub fn release(
 /// Resume: a wait that was released goes on.
 pub fn resume(
     state: &LinuxState,
-    slot: u8,
+    slot: Slot,
     thread: &LxThread,
     call: &mut LxCall,
     stage: Stage,
@@ -134,7 +136,7 @@ pub fn resume(
 fn mark_word(
     state: &mut LinuxState,
     alloc: Global,
-    slot: u8,
+    slot: Slot,
     thread: &LxThread,
     call: &mut LxCall,
     asked: Mark,
@@ -157,7 +159,7 @@ fn mark_word(
 pub fn mark(
     state: &mut LinuxState,
     alloc: Global,
-    slot: u8,
+    slot: Slot,
     thread: &LxThread,
     call: &mut LxCall,
     stage: Stage,

@@ -11,7 +11,7 @@ use lx_clones::clones::started;
 use lx_clones::robust_list::begun;
 use lx_machine::calls::{LxCall, Stage};
 use lx_machine::refusal::LxRefusal;
-use lx_machine::state::{LinuxState, THREADS};
+use lx_machine::state::{LinuxState, Slot, THREADS};
 use lx_machine::threads::{GuestEnd, Life, LxThread};
 use std::alloc::Global;
 
@@ -37,7 +37,7 @@ pub(crate) fn end_guest(state: &mut LinuxState, call: &LxCall)
 pub fn leave(
     state: &mut LinuxState,
     alloc: Global,
-    slot: u8,
+    slot: Slot,
     thread: &mut LxThread,
     call: &mut LxCall,
     stage: Stage,
@@ -78,24 +78,20 @@ fn start_at(
 #[tactic(auto, using(crate::proofs::Instructed::got, crate::proofs::Instructed::not_got, crate::proofs::Instructed::set_back))]
 fn start_in(
     threads: &mut [Option<LxThread>; THREADS],
-    at: u8,
+    at: Slot,
     thread: &LxThread,
     call: &mut LxCall,
 ) -> Result<(), LxRefusal>
     ensures goes { Starts (at_place threads.old at) threads.old threads.new at thread.now.regs thread.now.mask call.old call.new result }
     ensures decided { IsDecided result }
 {
-    let at = at as usize;
-    if at >= THREADS {
-        return Err(LxRefusal::NoStep);
-    }
-    start_at(&mut threads[at], thread, call)
+    start_at(&mut threads[at.index()], thread, call)
 }
 
 /// Start: the child that the call has reserved takes over the registers of its parent.
 pub fn start(
     state: &mut LinuxState,
-    slot: u8,
+    slot: Slot,
     thread: &LxThread,
     call: &mut LxCall,
     stage: Stage,

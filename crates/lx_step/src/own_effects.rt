@@ -1,5 +1,8 @@
 //! Effect of a call that changes no other thread: on memory, on its own thread, and where memory runs short.
-ghost use Rattle.std.specs.Prelude.{◌≡◌, ◌*◌};
+ghost use Rattle.std.proofs.Math.Bool.{not};
+ghost use Rattle.std.specs.Bool.{OnFalse};
+ghost use Rattle.std.specs.Prelude.{◌≡◌, ◌*◌, ◌&&◌, Some};
+ghost use Rattle.linux_abi.specs.Call.{call_of};
 ghost use Rattle.std.specs.Option.{option_or};
 ghost use Rattle.lx_machine.specs.Threads.{after_write};
 ghost use Rattle.lx_machine.specs.Getpid.{own_id};
@@ -7,6 +10,8 @@ ghost use Rattle.lx_machine.specs.Table.{rules};
 ghost use Rattle.lx_step.specs.Effects.{own_part, short_part, space_part, thread_part};
 ghost use Rattle.lx_step.specs.CallSteps.{own_effect_at};
 ghost use Rattle.lx_step.specs.Outcomes.{CallGoes};
+ghost use Rattle.lx_step.specs.Steps.{IsDecided};
+ghost use Rattle.lx_step.specs.Wants.{effect_makes};
 
 use crate::file_steps;
 use crate::life_steps::end_guest;
@@ -17,7 +22,7 @@ use lx_calls::process_calls::uname;
 use lx_clones::clones::set_robust_list;
 use lx_machine::calls::{LxCall, Stage};
 use lx_machine::refusal::LxRefusal;
-use lx_machine::state::LinuxState;
+use lx_machine::state::{LinuxState, Slot};
 use lx_machine::threads::LxThread;
 use lx_signal_calls::masks::{sigpending, sigprocmask};
 use lx_signal_calls::sigreturn::sigreturn;
@@ -34,7 +39,7 @@ const PARENT_ID: u64 = 1;
 const NO_PAGES: PageRange = PageRange { first: 0, count: 0 };
 
 /// Ends the marks of other threads on pages that a call has given up or made zeros.
-fn unmark_pages(state: &mut LinuxState, slot: u8, range: PageRange)
+fn unmark_pages(state: &mut LinuxState, slot: Slot, range: PageRange)
     ensures { state.new ≡ record state.old { threads = after_write slot (range.first * 4096) (range.count * 4096) state.old.threads } }
 {
     unmark(
@@ -48,12 +53,13 @@ fn unmark_pages(state: &mut LinuxState, slot: u8, range: PageRange)
 /// What a memory call does.
 fn memory_effect(
     state: &mut LinuxState,
-    slot: u8,
+    slot: Slot,
     thread: &LxThread,
     call: &mut LxCall,
     kind: Call,
 ) -> Result<(), LxRefusal>
-    ensures { CallGoes (space_part (rules kind).effect state.old slot thread.now call.old) state.old state.new slot thread.now thread.now call.old call.new result }
+    ensures goes { CallGoes (space_part (rules kind).effect state.old slot thread.now call.old) state.old state.new slot thread.now thread.now call.old call.new result }
+    ensures decided { OnFalse (effect_makes (Some kind)) (IsDecided result) }
 {
     let space = &mut state.space;
     let range = match kind {
@@ -75,12 +81,13 @@ fn memory_effect(
 fn thread_effect(
     state: &mut LinuxState,
     alloc: Global,
-    slot: u8,
+    slot: Slot,
     thread: &mut LxThread,
     call: &mut LxCall,
     kind: Call,
 ) -> Result<(), LxRefusal>
-    ensures { CallGoes (thread_part (rules kind).effect state.old slot thread.old call.old) state.old state.new slot thread.old thread.new call.old call.new result }
+    ensures goes { CallGoes (thread_part (rules kind).effect state.old slot thread.old call.old) state.old state.new slot thread.old thread.new call.old call.new result }
+    ensures decided { OnFalse (effect_makes (Some kind)) (IsDecided result) }
 {
     match kind {
         Call::SetTidAddress => {
@@ -115,12 +122,13 @@ fn thread_effect(
 fn past_files(
     state: &mut LinuxState,
     alloc: Global,
-    slot: u8,
+    slot: Slot,
     thread: &mut LxThread,
     call: &mut LxCall,
     kind: Call,
 ) -> Result<(), LxRefusal>
-    ensures { CallGoes (option_or (space_part (rules kind).effect state.old slot thread.old call.old) (thread_part (rules kind).effect state.old slot thread.old call.old)) state.old state.new slot thread.old thread.new call.old call.new result }
+    ensures goes { CallGoes (option_or (space_part (rules kind).effect state.old slot thread.old call.old) (thread_part (rules kind).effect state.old slot thread.old call.old)) state.old state.new slot thread.old thread.new call.old call.new result }
+    ensures decided { OnFalse (effect_makes (Some kind)) (IsDecided result) }
 {
     match memory_effect(state, slot, thread, call, kind) {
         Err(LxRefusal::NoStep) => thread_effect(state, alloc, slot, thread, call, kind),
@@ -132,12 +140,13 @@ fn past_files(
 fn effect_as(
     state: &mut LinuxState,
     alloc: Global,
-    slot: u8,
+    slot: Slot,
     thread: &mut LxThread,
     call: &mut LxCall,
     kind: Call,
 ) -> Result<(), LxRefusal>
-    ensures { CallGoes (own_part (rules kind).effect state.old slot thread.old call.old) state.old state.new slot thread.old thread.new call.old call.new result }
+    ensures goes { CallGoes (own_part (rules kind).effect state.old slot thread.old call.old) state.old state.new slot thread.old thread.new call.old call.new result }
+    ensures decided { OnFalse (effect_makes (Some kind)) (IsDecided result) }
 {
     match file_steps::effect(state, alloc, slot, thread, call, kind) {
         Err(LxRefusal::NoStep) => past_files(state, alloc, slot, thread, call, kind),
@@ -148,12 +157,13 @@ fn effect_as(
 /// What a call of this kind does, where memory runs short.
 fn short_as(
     state: &LinuxState,
-    slot: u8,
+    slot: Slot,
     thread: &LxThread,
     call: &mut LxCall,
     kind: Call,
 ) -> Result<(), LxRefusal>
-    ensures { CallGoes (short_part (rules kind) state.now slot thread.now call.old) state.now state.now slot thread.now thread.now call.old call.new result }
+    ensures goes { CallGoes (short_part (rules kind) state.now slot thread.now call.old) state.now state.now slot thread.now thread.now call.old call.new result }
+    ensures decided { IsDecided result }
 {
     run_short(&state.space, call, kind)
 }
@@ -162,13 +172,14 @@ fn short_as(
 pub fn effect(
     state: &mut LinuxState,
     alloc: Global,
-    slot: u8,
+    slot: Slot,
     thread: &mut LxThread,
     call: &mut LxCall,
     stage: Stage,
     short: bool,
 ) -> Result<(), LxRefusal>
-    ensures { CallGoes (own_effect_at short stage state.old slot thread.old call.old) state.old state.new slot thread.old thread.new call.old call.new result }
+    ensures goes { CallGoes (own_effect_at short stage state.old slot thread.old call.old) state.old state.new slot thread.old thread.new call.old call.new result }
+    ensures decided { OnFalse (not short && effect_makes (call_of call.old.number)) (IsDecided result) }
 {
     let Stage::Effect = stage else {
         return Err(LxRefusal::NoStep);

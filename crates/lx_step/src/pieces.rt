@@ -14,7 +14,7 @@ use lx_calls::shape::{after_fetch, after_store, mask_of, miss_fetch, miss_store}
 use lx_machine::buffer::{Bytes, NoMemory, ROOM};
 use lx_machine::calls::{LxCall, Piece, Pieces, Stage};
 use lx_machine::refusal::LxRefusal;
-use lx_machine::state::LinuxState;
+use lx_machine::state::{LinuxState, Slot};
 use lx_machine::threads::LxThread;
 use lx_memory::queries::is_allowed;
 use lx_memory::{Memory, Right};
@@ -122,7 +122,7 @@ fn first(bytes: &[u8], len: u64) -> &[u8]
 fn fetch_piece(
     state: &LinuxState,
     alloc: Global,
-    slot: u8,
+    slot: Slot,
     thread: &mut LxThread,
     call: &mut LxCall,
     p: Piece,
@@ -144,7 +144,7 @@ fn fetch_piece(
 pub fn fetch(
     state: &LinuxState,
     alloc: Global,
-    slot: u8,
+    slot: Slot,
     thread: &mut LxThread,
     call: &mut LxCall,
     stage: Stage,
@@ -161,7 +161,7 @@ pub fn fetch(
 }
 
 /// Store of this piece.
-fn store_piece(state: &mut LinuxState, slot: u8, thread: &LxThread, call: &mut LxCall, p: Piece)
+fn store_piece(state: &mut LinuxState, slot: Slot, thread: &LxThread, call: &mut LxCall, p: Piece)
     ensures { store_of p state.old slot thread.now call.old ≡ in_call_of state.new slot thread.now call.new }
 {
     if !is_allowed(&state.space.pages, Right::Write, p.at, p.len) {
@@ -181,7 +181,7 @@ fn store_piece(state: &mut LinuxState, slot: u8, thread: &LxThread, call: &mut L
 /// refused (read(2), EFAULT) or, as a death or a clone, goes on. What is written ends the marks of other threads.
 pub fn store(
     state: &mut LinuxState,
-    slot: u8,
+    slot: Slot,
     thread: &LxThread,
     call: &mut LxCall,
     stage: Stage,

@@ -16,7 +16,7 @@ use lx_machine::calls::{LxCall, Stage};
 use lx_machine::label::PendingList;
 use lx_machine::refusal::LxRefusal;
 use lx_machine::signals::Fate;
-use lx_machine::state::LinuxState;
+use lx_machine::state::{LinuxState, Slot};
 use lx_machine::threads::{GuestEnd, LxThread};
 use lx_signal_calls::frames::store_taken;
 use lx_signals::sending::forget;
@@ -48,7 +48,7 @@ fn end_by(state: &mut LinuxState, signal: Option<LinuxSig>)
 
 /// What follows of a signal that a thread has taken.
 #[tactic(auto, using(lx_signals::proofs::Forgotten::forgotten_back))]
-fn follow(state: &mut LinuxState, slot: u8, thread: &mut LxThread, fate: Fate)
+fn follow(state: &mut LinuxState, slot: Slot, thread: &mut LxThread, fate: Fate)
     ensures { forgotten fate.forgets (with_thread (killed_by fate.ends state.old) slot thread.old) ≡ with_thread state.new slot thread.new }
 {
     end_by(state, fate.ends);
@@ -62,7 +62,7 @@ fn follow(state: &mut LinuxState, slot: u8, thread: &mut LxThread, fate: Fate)
 /// that it keeps, or the named one.
 pub fn return_result(
     state: &mut LinuxState,
-    slot: u8,
+    slot: Slot,
     thread: &mut LxThread,
     named: Option<Named>,
 ) -> Result<(), LxRefusal>
@@ -88,7 +88,7 @@ pub fn return_result(
 /// Take: the thread in a slot takes the signal of its trap, or in no call a pending one.
 pub fn take_signal(
     state: &mut LinuxState,
-    slot: u8,
+    slot: Slot,
     thread: &mut LxThread,
     list: PendingList,
     signal: LinuxSig,
@@ -110,7 +110,7 @@ pub fn take_signal(
 
 /// Frame: the frame of the handler of the signal that the thread has taken is stored. What is written ends the marks of other
 /// threads.
-pub fn frame(state: &mut LinuxState, slot: u8, thread: &mut LxThread) -> Result<(), LxRefusal>
+pub fn frame(state: &mut LinuxState, slot: Slot, thread: &mut LxThread) -> Result<(), LxRefusal>
     ensures goes { ThreadGoes (frame state.old slot thread.old) state.old state.new slot thread.old thread.new result }
     ensures decided { IsDecided result }
 {
@@ -132,7 +132,7 @@ fn kill_follows(thread: &LxThread) -> bool
 }
 
 /// Kill: the guest ends, since a frame could not be stored or read.
-pub fn kill(state: &mut LinuxState, slot: u8, thread: &LxThread) -> Result<(), LxRefusal>
+pub fn kill(state: &mut LinuxState, slot: Slot, thread: &LxThread) -> Result<(), LxRefusal>
     ensures goes { ThreadGoes (kill state.old slot thread.now) state.old state.new slot thread.now thread.now result }
     ensures decided { IsDecided result }
 {

@@ -1,5 +1,6 @@
 //! A thread is taken out of its place, steps, and is put back; and so is the call of a thread.
-ghost use Rattle.std.specs.Prelude.{◌≡◌, ◌<◌, slice_get, Some, None, IfSome};
+ghost use Rattle.std.specs.Bool.{OnFalse};
+ghost use Rattle.std.specs.Prelude.{◌≡◌, slice_get, Some, None, IfSome};
 ghost use Rattle.lx_machine.specs.Lists.{at_place, without_place};
 ghost use Rattle.lx_machine.specs.Threads.{with_thread};
 ghost use Rattle.lx_machine.specs.Step.{gone, in_call, of_call, on_thread};
@@ -7,6 +8,7 @@ ghost use Rattle.lx_machine.specs.Shape.{stage_of};
 ghost use Rattle.lx_step.specs.CallSteps.{call_step, thread_step, is_gone, after_gone};
 ghost use Rattle.lx_step.specs.Outcomes.{CallGoes, ThreadGoes};
 ghost use Rattle.lx_step.specs.Steps.{Steps, IsDecided, IsDecidedAt};
+ghost use Rattle.lx_step.specs.Wants.{WantsIn, call_may_want, in_call_may_want};
 
 use crate::life_steps::{all_free, end_guest};
 use crate::{file_steps, futex_steps, life_steps, own_effects, pieces, signal_steps, wait_steps};
@@ -14,7 +16,7 @@ use lx_calls::shape::stage_of;
 use lx_machine::calls::{LxCall, Stage};
 use lx_machine::label::Label;
 use lx_machine::refusal::LxRefusal;
-use lx_machine::state::{LinuxState, THREADS};
+use lx_machine::state::{LinuxState, Slot, THREADS};
 use lx_machine::threads::LxThread;
 use std::alloc::Global;
 use std::mem;
@@ -23,7 +25,7 @@ use std::mem;
 fn step_call(
     state: &mut LinuxState,
     alloc: Global,
-    slot: u8,
+    slot: Slot,
     thread: &mut LxThread,
     call: &mut LxCall,
     stage: Stage,
@@ -31,6 +33,7 @@ fn step_call(
 ) -> Result<(), LxRefusal>
     ensures goes { CallGoes (call_step label.now stage state.old slot thread.old call.old) state.old state.new slot thread.old thread.new call.old call.new result }
     ensures decided { IsDecidedAt label.now result }
+    ensures wants { OnFalse (call_may_want label.now state.old.files state.old.queue call.old) (IsDecided result) }
 {
     match label {
         Label::Fetch(_) => pieces::fetch(state, alloc, slot, thread, call, stage),
@@ -65,12 +68,13 @@ fn step_call(
 fn step_thread(
     state: &mut LinuxState,
     alloc: Global,
-    slot: u8,
+    slot: Slot,
     thread: &mut LxThread,
     label: &Label,
 ) -> Result<(), LxRefusal>
     ensures goes { ThreadGoes (of_call (call_step label.now) state.old slot thread.old) state.old state.new slot thread.old thread.new result }
     ensures decided { IsDecidedAt label.now result }
+    ensures wants { OnFalse (in_call_may_want label.now state.old.files state.old.queue thread.old.call) (IsDecided result) }
 {
     match mem::replace(&mut thread.call, None) {
         Some(mut call) => {
@@ -83,39 +87,43 @@ fn step_thread(
     }
 }
 
+/// The place of this number, if there is one.
+#[tactic(auto, using(crate::proofs::PutBack::no_thread))]
+pub(crate) fn place_of(threads: &[Option<LxThread>; THREADS], number: u8) -> Option<Slot>
+    ensures there { IfSome result (λ slot. slot ≡ number) }
+    ensures nowhere { result ≡ None → at_place threads.now number ≡ None }
+{
+    Slot::new(number)
+}
+
 /// Takes the thread out of a slot, if there is one.
 #[tactic(auto, using(crate::proofs::Instructed::got, crate::proofs::Instructed::not_got, crate::proofs::Instructed::set_back))]
-fn take_from(threads: &mut [Option<LxThread>; THREADS], slot: u8) -> Option<LxThread>
+fn take_from(threads: &mut [Option<LxThread>; THREADS], slot: Slot) -> Option<LxThread>
     ensures there { IfSome result (λ t. slice_get threads.old slot ≡ Some (Some t)) }
     ensures out { IfSome result (λ t. threads.new ≡ without_place threads.old slot) }
-    ensures within { IfSome result (λ t. slot < 32) }
     ensures nowhere { result ≡ None → (at_place threads.old slot ≡ None) × (threads.new ≡ threads.old) }
 {
-    let at = slot as usize;
-    if at >= THREADS {
-        return None;
-    }
-    mem::replace(&mut threads[at], None)
+    mem::replace(&mut threads[slot.index()], None)
 }
 
 /// Puts a thread into a slot.
-fn put_back(state: &mut LinuxState, slot: u8, thread: LxThread)
-    requires { slot < 32 }
+fn put_back(state: &mut LinuxState, slot: Slot, thread: LxThread)
     ensures { state.new ≡ with_thread state.old slot thread }
 {
-    state.threads[slot as usize] = Some(thread);
+    state.threads[slot.index()] = Some(thread);
 }
 
 /// The step of the thread in a slot, in its call, that a label names.
 #[tactic(auto, using(crate::proofs::PutBack::thread_back))]
-pub fn in_call(
+fn in_call_at(
     state: &mut LinuxState,
     alloc: Global,
-    slot: u8,
+    slot: Slot,
     label: &Label,
 ) -> Result<(), LxRefusal>
     ensures steps { Steps (in_call state.old slot (call_step label.now)) state.old state.new result }
     ensures decided { IsDecidedAt label.now result }
+    ensures wants { WantsIn state.old label.now slot result }
 {
     let Some(mut thread) = take_from(&mut state.threads, slot) else {
         return Err(LxRefusal::NoStep);
@@ -125,10 +133,27 @@ pub fn in_call(
     result
 }
 
+/// The same, of the slot of this number.
+pub fn in_call(
+    state: &mut LinuxState,
+    alloc: Global,
+    number: u8,
+    label: &Label,
+) -> Result<(), LxRefusal>
+    ensures steps { Steps (in_call state.old number (call_step label.now)) state.old state.new result }
+    ensures decided { IsDecidedAt label.now result }
+    ensures wants { WantsIn state.old label.now number result }
+{
+    match place_of(&state.threads, number) {
+        Some(slot) => in_call_at(state, alloc, slot, label),
+        None => Err(LxRefusal::NoStep),
+    }
+}
+
 /// The step of a thread that a label names.
 fn step_of_thread(
     state: &mut LinuxState,
-    slot: u8,
+    slot: Slot,
     thread: &mut LxThread,
     label: &Label,
 ) -> Result<(), LxRefusal>
@@ -148,7 +173,7 @@ fn step_of_thread(
 
 /// The step of the thread in a slot that a label names.
 #[tactic(auto, using(crate::proofs::PutBack::thread_back))]
-pub fn on_thread(state: &mut LinuxState, slot: u8, label: &Label) -> Result<(), LxRefusal>
+fn on_thread_at(state: &mut LinuxState, slot: Slot, label: &Label) -> Result<(), LxRefusal>
     ensures steps { Steps (on_thread state.old slot (thread_step label.now)) state.old state.new result }
     ensures decided { IsDecided result }
 {
@@ -158,6 +183,17 @@ pub fn on_thread(state: &mut LinuxState, slot: u8, label: &Label) -> Result<(), 
     let result = step_of_thread(state, slot, &mut thread, label);
     put_back(state, slot, thread);
     result
+}
+
+/// The same, of the slot of this number.
+pub fn on_thread(state: &mut LinuxState, number: u8, label: &Label) -> Result<(), LxRefusal>
+    ensures steps { Steps (on_thread state.old number (thread_step label.now)) state.old state.new result }
+    ensures decided { IsDecided result }
+{
+    match place_of(&state.threads, number) {
+        Some(slot) => on_thread_at(state, slot, label),
+        None => Err(LxRefusal::NoStep),
+    }
 }
 
 /// Whether the death of the thread has come to its end.
@@ -183,7 +219,7 @@ fn after_gone(state: &mut LinuxState, thread: &LxThread)
 
 /// Gone: the place of a thread that has died is free.
 #[tactic(auto, using(crate::proofs::PutBack::thread_back, crate::proofs::Staged::goes, crate::proofs::Staged::stays))]
-pub fn gone(state: &mut LinuxState, slot: u8) -> Result<(), LxRefusal>
+fn gone_at(state: &mut LinuxState, slot: Slot) -> Result<(), LxRefusal>
     ensures steps { Steps (in_call state.old slot (gone)) state.old state.new result }
     ensures decided { IsDecided result }
 {
@@ -196,5 +232,16 @@ pub fn gone(state: &mut LinuxState, slot: u8) -> Result<(), LxRefusal>
     } else {
         put_back(state, slot, thread);
         Err(LxRefusal::NoStep)
+    }
+}
+
+/// The same, of the slot of this number.
+pub fn gone(state: &mut LinuxState, number: u8) -> Result<(), LxRefusal>
+    ensures steps { Steps (in_call state.old number (gone)) state.old state.new result }
+    ensures decided { IsDecided result }
+{
+    match place_of(&state.threads, number) {
+        Some(slot) => gone_at(state, slot),
+        None => Err(LxRefusal::NoStep),
     }
 }

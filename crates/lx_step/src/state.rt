@@ -9,6 +9,7 @@ ghost use Rattle.lx_machine.specs.Step.{LStep};
 ghost use Rattle.lx_machine.specs.Start.{start};
 ghost use Rattle.lx_machine.specs.Stack.{arguments_of, name_of};
 ghost use Rattle.lx_step.specs.Steps.{Steps, IsDecided, IsDecidedAt};
+ghost use Rattle.lx_step.specs.Wants.{Wants, WantsIn};
 
 use crate::{slots, threads, whole_steps};
 use elf_image::Image;
@@ -31,7 +32,8 @@ pub struct LxState {
 #[tactic(auto, using(crate::proofs::Staged::goes_by_parts))]
 fn effect(state: &mut LinuxState, alloc: Global, slot: u8, label: &Label) -> Result<(), LxRefusal>
     requires { label.now ≡ label_of.Effect slot false }
-    ensures { Steps (in_call state.old slot (effect false)) state.old state.new result }
+    ensures steps { Steps (in_call state.old slot (effect false)) state.old state.new result }
+    ensures wants { WantsIn state.old (label_of.Effect slot false) slot result }
 {
     match whole_steps::effect(state, alloc, slot) {
         Err(LxRefusal::NoStep) => slots::in_call(state, alloc, slot, label),
@@ -48,7 +50,8 @@ fn effect_short(
     label: &Label,
 ) -> Result<(), LxRefusal>
     requires { label.now ≡ label_of.Effect slot true }
-    ensures { Steps (in_call state.old slot (effect true)) state.old state.new result }
+    ensures steps { Steps (in_call state.old slot (effect true)) state.old state.new result }
+    ensures wants { WantsIn state.old (label_of.Effect slot true) slot result }
 {
     slots::in_call(state, alloc, slot, label)
 }
@@ -92,6 +95,7 @@ fn drain(state: &mut LinuxState, side: LxSide, n: u64) -> Result<(), LxRefusal>
 fn step_on(state: &mut LinuxState, alloc: Global, label: &Label) -> Result<(), LxRefusal>
     ensures steps { Steps (step_of state.old label.now) state.old state.new result }
     ensures decided { IsDecidedAt label.now result }
+    ensures wants { Wants state.old label.now result }
 {
     match label {
         Label::Instr(slot) => threads::instruction(state, alloc, *slot),
@@ -140,11 +144,13 @@ impl LxState {
     }
 
     /// Takes the step that `label` names. `NoStep`: there is none from this state, as for a guest that has ended.
-    /// `NoMemory`: memory is wanting, which is so at Instr, Fetch, Hold, Effect, Move, Clock, Queue, Mark, Interrupt and
-    /// Leave alone. After either, the state is as it was.
+    /// `NoMemory`: memory is wanting, which is so at Instr, Fetch, Move, Mark and Leave; at Effect, Clock and Interrupt of the
+    /// calls that make bytes or keep something; at Hold where one more hold can't be counted; and at Queue where all places
+    /// of the queue are taken. After either, the state is as it was.
     pub fn step(&mut self, alloc: Global, label: &Label) -> Result<(), LxRefusal>
         ensures steps { Steps (LStep self.old.state label.now) self.old.state self.new.state result }
         ensures decided { IsDecidedAt label.now result }
+        ensures wants { Wants self.old.state label.now result }
     {
         if self.state.end.is_some() {
             return Err(LxRefusal::NoStep);

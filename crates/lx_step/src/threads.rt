@@ -5,10 +5,11 @@ ghost use Rattle.lx_machine.specs.Instruction.{instruction};
 ghost use Rattle.lx_step.specs.Places.{ran_at, RunsAt, ran_in, RunsIn};
 ghost use Rattle.lx_step.specs.Steps.{Steps};
 
+use crate::slots::place_of;
 use lx_instructions::instruction::{Written, run};
 use lx_machine::buffer::NoMemory;
 use lx_machine::refusal::LxRefusal;
-use lx_machine::state::{LinuxState, THREADS};
+use lx_machine::state::{LinuxState, Slot, THREADS};
 use lx_machine::threads::LxThread;
 use lx_memory::Memory;
 use lx_signals::taking::is_user;
@@ -42,7 +43,7 @@ fn unmark_other(is_writer: bool, place: &mut Option<LxThread>, first: u128, last
 /// Ends the marks of the threads in the slots from `at` on that lie in these granules, but for the thread in `slot`.
 fn unmark_from(
     at: usize,
-    slot: u8,
+    slot: Slot,
     first: u128,
     last: u128,
     threads: &mut [Option<LxThread>; THREADS],
@@ -51,13 +52,13 @@ fn unmark_from(
     ensures { threads.new ≡ take at threads.old ++ unmarked_from at slot first last (drop at threads.old) }
 {
     if at < THREADS {
-        unmark_other(at == slot as usize, &mut threads[at], first, last);
+        unmark_other(at == slot.index(), &mut threads[at], first, last);
         unmark_from(at + 1, slot, first, last, threads);
     }
 }
 
 /// Ends the marks of other threads after the thread in `slot` has written so many bytes from an address on.
-pub(crate) fn unmark(state: &mut LinuxState, slot: u8, at: u128, len: u128)
+pub(crate) fn unmark(state: &mut LinuxState, slot: Slot, at: u128, len: u128)
     requires { at + len < 2 ^ 128 }
     ensures { state.new ≡ record state.old { threads = after_write slot at len state.old.threads } }
 {
@@ -92,22 +93,28 @@ fn run_in(
     alloc: Global,
     memory: &mut Memory,
     threads: &mut [Option<LxThread>; THREADS],
-    slot: u8,
+    slot: Slot,
 ) -> Result<Written, LxRefusal>
     ensures { RunsIn (ran_in memory.old threads.old slot) memory.old memory.new threads.old threads.new slot result }
 {
-    let at = slot as usize;
-    if at >= THREADS {
-        return Err(LxRefusal::NoStep);
-    }
-    run_at(alloc, memory, &mut threads[at])
+    run_at(alloc, memory, &mut threads[slot.index()])
 }
 
 /// Instr: the instruction at pc of the thread in a slot that is in no call.
-pub fn instruction(state: &mut LinuxState, alloc: Global, slot: u8) -> Result<(), LxRefusal>
+fn instruction_in(state: &mut LinuxState, alloc: Global, slot: Slot) -> Result<(), LxRefusal>
     ensures { Steps (outside_call state.old slot (λ t. Some (instruction state.old slot t))) state.old state.new result }
 {
     let written = run_in(alloc, &mut state.space.pages, &mut state.threads, slot)?;
     unmark(state, slot, u128::from(written.at), u128::from(written.len));
     Ok(())
+}
+
+/// The same, of the slot of this number.
+pub fn instruction(state: &mut LinuxState, alloc: Global, number: u8) -> Result<(), LxRefusal>
+    ensures { Steps (outside_call state.old number (λ t. Some (instruction state.old number t))) state.old state.new result }
+{
+    match place_of(&state.threads, number) {
+        Some(slot) => instruction_in(state, alloc, slot),
+        None => Err(LxRefusal::NoStep),
+    }
 }

@@ -1,5 +1,7 @@
 //! Clock, Expire and Interrupt: how waits get a deadline, and how they end by it or by a signal (signal(7)).
+ghost use Rattle.std.specs.Bool.{OnFalse};
 ghost use Rattle.std.specs.Prelude.{◌≡◌, Some, None, Err, OnOk, OnErr};
+ghost use Rattle.linux_abi.specs.Call.{call_of};
 ghost use Rattle.std.specs.Option.{option_map};
 ghost use Rattle.lx_machine.specs.Waits.{can_move, expire, expire_at_file, gives_up, file_given_up, wait_given_up, interrupt, kept_in};
 ghost use Rattle.lx_machine.specs.Step as machine;
@@ -7,6 +9,7 @@ ghost use Rattle.lx_machine.specs.Table.{rules_of};
 ghost use Rattle.lx_machine.specs.declared.refusal.LxRefusal.TheVariants.{NoStep};
 ghost use Rattle.lx_step.specs.Outcomes.{CallGoes, GivesUp};
 ghost use Rattle.lx_step.specs.Steps.{IsDecided};
+ghost use Rattle.lx_step.specs.Wants.{clock_makes, interrupt_makes};
 
 use linux_abi::{Call, LinuxErrno, LinuxSig};
 use lx_epolls::epoll_calls::{epoll_can_move, epoll_expire, epoll_interrupt, set_timeout};
@@ -19,7 +22,7 @@ use lx_machine::files::Files;
 use lx_machine::label::PendingList;
 use lx_machine::refusal::LxRefusal;
 use lx_machine::signals::SigInfo;
-use lx_machine::state::LinuxState;
+use lx_machine::state::{LinuxState, Slot};
 use lx_machine::threads::LxThread;
 use lx_signals::taking::{found, remove_from};
 use lx_transfers::readiness::can_move as transfer_can_move;
@@ -31,6 +34,7 @@ fn clock_as(alloc: Global, clock: u64, call: &mut LxCall) -> Result<(), LxRefusa
     ensures ok { OnOk result ((rules_of call.old).clocked clock call.old ≡ Some call.new) }
     ensures none { result ≡ Err NoStep → (rules_of call.old).clocked clock call.old ≡ None }
     ensures err { OnErr result (call.new ≡ call.old) }
+    ensures decided { OnFalse (clock_makes (call_of call.old.number)) (IsDecided result) }
 {
     match Call::new(call.number) {
         Some(Call::Futex) => futex_clocked(clock, call),
@@ -46,12 +50,13 @@ fn clock_as(alloc: Global, clock: u64, call: &mut LxCall) -> Result<(), LxRefusa
 pub fn clock(
     state: &LinuxState,
     alloc: Global,
-    slot: u8,
+    slot: Slot,
     thread: &LxThread,
     call: &mut LxCall,
     stage: Stage,
 ) -> Result<(), LxRefusal>
-    ensures { CallGoes (machine.clock stage state.now slot thread.now call.old) state.now state.now slot thread.now thread.now call.old call.new result }
+    ensures goes { CallGoes (machine.clock stage state.now slot thread.now call.old) state.now state.now slot thread.now thread.now call.old call.new result }
+    ensures decided { OnFalse (clock_makes (call_of call.old.number)) (IsDecided result) }
 {
     match stage {
         Stage::Clock => clock_as(alloc, state.clock, call),
@@ -72,7 +77,7 @@ fn can_move(files: &Files, call: &LxCall) -> bool
 /// Expire of a wait at an epoll.
 fn expire_at_file(
     state: &mut LinuxState,
-    slot: u8,
+    slot: Slot,
     thread: &LxThread,
     call: &mut LxCall,
 ) -> Result<(), LxRefusal>
@@ -88,7 +93,7 @@ fn expire_at_file(
 /// Expire: the deadline of a wait has come.
 pub fn expire(
     state: &mut LinuxState,
-    slot: u8,
+    slot: Slot,
     thread: &LxThread,
     call: &mut LxCall,
     stage: Stage,
@@ -110,7 +115,8 @@ fn give_up_wait(
     thread: &LxThread,
     call: &mut LxCall,
 ) -> Result<(), LxRefusal>
-    ensures { GivesUp (wait_given_up state.old thread.now call.old) state.old state.new call.old call.new result }
+    ensures goes { GivesUp (wait_given_up state.old thread.now call.old) state.old state.new call.old call.new result }
+    ensures decided { IsDecided result }
 {
     leaves_queue(thread.tid, &mut state.queue, call)?;
     call.refuse(LinuxErrno::EINTR);
@@ -119,7 +125,8 @@ fn give_up_wait(
 
 /// A wait for a deadline or a signal ends by a signal.
 fn give_up_rest(state: &LinuxState, alloc: Global, call: &mut LxCall) -> Result<(), LxRefusal>
-    ensures { GivesUp (Some ((rules_of call.old).rest_given_up state.now call.old)) state.now state.now call.old call.new result }
+    ensures goes { GivesUp (Some ((rules_of call.old).rest_given_up state.now call.old)) state.now state.now call.old call.new result }
+    ensures decided { OnFalse (interrupt_makes (call_of call.old.number)) (IsDecided result) }
 {
     match Call::new(call.number) {
         Some(Call::Nanosleep) => nanosleep_interrupted(alloc, state.clock, call)?,
@@ -130,7 +137,8 @@ fn give_up_rest(state: &LinuxState, alloc: Global, call: &mut LxCall) -> Result<
 
 /// A wait at a file ends by a signal.
 fn give_up_move(state: &mut LinuxState, call: &mut LxCall) -> Result<(), LxRefusal>
-    ensures { GivesUp (file_given_up state.old call.old) state.old state.new call.old call.new result }
+    ensures goes { GivesUp (file_given_up state.old call.old) state.old state.new call.old call.new result }
+    ensures decided { IsDecided result }
 {
     if can_move(&state.files, call) {
         return Err(LxRefusal::NoStep);
@@ -149,7 +157,8 @@ fn give_up(
     call: &mut LxCall,
     stage: Stage,
 ) -> Result<(), LxRefusal>
-    ensures { GivesUp (gives_up stage state.old thread.now call.old) state.old state.new call.old call.new result }
+    ensures goes { GivesUp (gives_up stage state.old thread.now call.old) state.old state.new call.old call.new result }
+    ensures decided { OnFalse (interrupt_makes (call_of call.old.number)) (IsDecided result) }
 {
     match stage {
         Stage::Wait => give_up_wait(state, thread, call),
@@ -163,14 +172,15 @@ fn give_up(
 fn interrupt_by(
     state: &mut LinuxState,
     alloc: Global,
-    slot: u8,
+    slot: Slot,
     thread: &mut LxThread,
     call: &mut LxCall,
     stage: Stage,
     list: PendingList,
     info: SigInfo,
 ) -> Result<(), LxRefusal>
-    ensures { CallGoes (option_map (kept_in slot thread.old list info) (gives_up stage state.old thread.old call.old)) state.old state.new slot thread.old thread.new call.old call.new result }
+    ensures goes { CallGoes (option_map (kept_in slot thread.old list info) (gives_up stage state.old thread.old call.old)) state.old state.new slot thread.old thread.new call.old call.new result }
+    ensures decided { OnFalse (interrupt_makes (call_of call.old.number)) (IsDecided result) }
 {
     give_up(state, alloc, thread, call, stage)?;
     call.kept = Some(info);
@@ -182,14 +192,15 @@ fn interrupt_by(
 pub fn interrupt(
     state: &mut LinuxState,
     alloc: Global,
-    slot: u8,
+    slot: Slot,
     thread: &mut LxThread,
     call: &mut LxCall,
     stage: Stage,
     list: PendingList,
     signal: LinuxSig,
 ) -> Result<(), LxRefusal>
-    ensures { CallGoes (interrupt list signal stage state.old slot thread.old call.old) state.old state.new slot thread.old thread.new call.old call.new result }
+    ensures goes { CallGoes (interrupt list signal stage state.old slot thread.old call.old) state.old state.new slot thread.old thread.new call.old call.new result }
+    ensures decided { OnFalse (interrupt_makes (call_of call.old.number)) (IsDecided result) }
 {
     match found(thread.mask, &thread.pending, &state.pending, list, signal) {
         Some(info) => interrupt_by(state, alloc, slot, thread, call, stage, list, info),

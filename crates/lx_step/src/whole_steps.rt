@@ -1,5 +1,8 @@
 //! Effect of a call that looks at all threads, or changes others: clone, get_robust_list, kill, tkill, tgkill and rt_sigaction.
-ghost use Rattle.std.specs.Prelude.{◌≡◌, Some};
+ghost use Rattle.std.specs.Bool.{OnFalse};
+ghost use Rattle.std.specs.Prelude.{◌≡◌, Some, false};
+ghost use Rattle.linux_abi.specs.Call.{call_of};
+ghost use Rattle.lx_machine.specs.declared.label.Label.TheVariants as label_of;
 ghost use Rattle.std.specs.Option.{option_map};
 ghost use Rattle.lx_machine.specs.Shape.{stage_of};
 ghost use Rattle.lx_machine.specs.Kill.{send_whole};
@@ -12,15 +15,17 @@ ghost use Rattle.lx_machine.specs.Threads.{with_call, without_call};
 ghost use Rattle.lx_step.specs.CallSteps.{whole_effect_at};
 ghost use Rattle.lx_step.specs.Outcomes.{WholeGoes};
 ghost use Rattle.lx_step.specs.Wholes.{whole_at, taken_of, taken_at, call_out};
-ghost use Rattle.lx_step.specs.Steps.{Steps};
+ghost use Rattle.lx_step.specs.Steps.{IsDecided, Steps};
+ghost use Rattle.lx_step.specs.Wants.{WantsIn, effect_makes};
 
+use crate::slots::place_of;
 use linux_abi::Call;
 use lx_calls::shape::stage_of;
 use lx_clones::clones::{cloned, get_robust_list};
 use lx_machine::calls::{LxCall, Stage};
 use lx_machine::refusal::LxRefusal;
 use lx_machine::signals::Sending;
-use lx_machine::state::{LinuxState, THREADS};
+use lx_machine::state::{LinuxState, Slot, THREADS};
 use lx_machine::threads::LxThread;
 use lx_signal_calls::actions::sigaction;
 use lx_signals::sending::{
@@ -52,7 +57,8 @@ fn effect_as(
     call: &mut LxCall,
     kind: Option<Call>,
 ) -> Result<(), LxRefusal>
-    ensures { WholeGoes (all_part (rules_at kind).effect state.old mask robust_head call.old) state.old state.new call.old call.new result }
+    ensures goes { WholeGoes (all_part (rules_at kind).effect state.old mask robust_head call.old) state.old state.new call.old call.new result }
+    ensures decided { OnFalse (effect_makes kind) (IsDecided result) }
 {
     match kind {
         Some(Call::Clone) => {
@@ -116,15 +122,11 @@ fn take_from_place(place: &mut Option<LxThread>) -> Option<Taken>
 
 /// Takes the call out of the thread in a slot, if there is one in a call.
 #[tactic(auto, using(crate::proofs::Instructed::got, crate::proofs::Instructed::not_got, crate::proofs::WholeStepped::set_past))]
-fn take_call(threads: &mut [Option<LxThread>; THREADS], slot: u8) -> Option<Taken>
+fn take_call(threads: &mut [Option<LxThread>; THREADS], slot: Slot) -> Option<Taken>
     ensures taken { result ≡ taken_at threads.old slot }
     ensures left { threads.new ≡ call_out threads.old slot }
 {
-    let at = slot as usize;
-    if at >= THREADS {
-        return None;
-    }
-    take_from_place(&mut threads[at])
+    take_from_place(&mut threads[slot.index()])
 }
 
 /// A thread stands so in this call, if there is one.
@@ -138,18 +140,16 @@ fn put_in_place(place: &mut Option<LxThread>, call: LxCall)
 
 /// The thread in a slot, if there is one, stands so in this call.
 #[tactic(auto, using(crate::proofs::Instructed::got, crate::proofs::Instructed::not_got, crate::proofs::WholeStepped::set_past))]
-fn put_call(threads: &mut [Option<LxThread>; THREADS], slot: u8, call: LxCall)
+fn put_call(threads: &mut [Option<LxThread>; THREADS], slot: Slot, call: LxCall)
     ensures { threads.new ≡ call_put threads.old slot call }
 {
-    let at = slot as usize;
-    if at < THREADS {
-        put_in_place(&mut threads[at], call);
-    }
+    put_in_place(&mut threads[slot.index()], call);
 }
 
 /// What such a call does, where Effect comes next.
 fn effect_at(state: &mut LinuxState, alloc: Global, taken: &mut Taken) -> Result<(), LxRefusal>
     ensures goes { WholeGoes (whole_at (stage_of taken.old.call) state.old taken.old.mask taken.old.robust_head taken.old.call) state.old state.new taken.old.call taken.new.call result }
+    ensures decided { OnFalse (effect_makes (call_of taken.old.call.number)) (IsDecided result) }
 {
     let Stage::Effect = stage_of(&taken.call) else {
         return Err(LxRefusal::NoStep);
@@ -166,8 +166,9 @@ fn effect_at(state: &mut LinuxState, alloc: Global, taken: &mut Taken) -> Result
 }
 
 /// Effect of a call of the thread in a slot that looks at all threads, or changes others.
-pub fn effect(state: &mut LinuxState, alloc: Global, slot: u8) -> Result<(), LxRefusal>
-    ensures { Steps (in_call state.old slot whole_effect_at) state.old state.new result }
+fn effect_in(state: &mut LinuxState, alloc: Global, slot: Slot) -> Result<(), LxRefusal>
+    ensures steps { Steps (in_call state.old slot whole_effect_at) state.old state.new result }
+    ensures wants { WantsIn state.old (label_of.Effect slot false) slot result }
 {
     let Some(mut taken) = take_call(&mut state.threads, slot) else {
         return Err(LxRefusal::NoStep);
@@ -175,4 +176,15 @@ pub fn effect(state: &mut LinuxState, alloc: Global, slot: u8) -> Result<(), LxR
     let result = effect_at(state, alloc, &mut taken);
     put_call(&mut state.threads, slot, taken.call);
     result
+}
+
+/// The same, of the slot of this number.
+pub fn effect(state: &mut LinuxState, alloc: Global, number: u8) -> Result<(), LxRefusal>
+    ensures steps { Steps (in_call state.old number whole_effect_at) state.old state.new result }
+    ensures wants { WantsIn state.old (label_of.Effect number false) number result }
+{
+    match place_of(&state.threads, number) {
+        Some(slot) => effect_in(state, alloc, slot),
+        None => Err(LxRefusal::NoStep),
+    }
 }

@@ -17,7 +17,7 @@ use lx_files::files::{has_writer, place_at};
 use lx_files::interests::arm_on;
 use lx_machine::buffer::{Bytes, NoMemory, Room};
 use lx_machine::calls::{LxCall, Piece};
-use lx_machine::files::{Counter, FileKind, Files, Input, OpenFile};
+use lx_machine::files::{Counter, FileKind, Files, Input, NumberedFile};
 use lx_machine::refusal::LxRefusal;
 use std::alloc::Global;
 
@@ -71,16 +71,15 @@ fn end_with_bytes(files: &mut Files, call: &mut LxCall, file: u32, bytes: Bytes)
 fn read_nothing(
     files: &mut Files,
     call: &mut LxCall,
-    file: u32,
-    f: OpenFile,
+    f: NumberedFile,
     pipe: u32,
 ) -> Result<bool, LxRefusal>
-    ensures { MakesTransfer (read_pipe files.old call.old file f pipe []) files.old call.old files.new call.new result }
+    ensures { MakesTransfer (read_pipe files.old call.old f pipe []) files.old call.old files.new call.new result }
 {
     if has_writer(files, pipe) {
-        return wait(files, call, file, f);
+        return wait(files, call, f);
     }
-    end_with(files, call, file, 0);
+    end_with(files, call, f.number, 0);
     Ok(false)
 }
 
@@ -125,21 +124,20 @@ fn read_from_pipe(
     alloc: Global,
     files: &mut Files,
     call: &mut LxCall,
-    file: u32,
-    f: OpenFile,
+    f: NumberedFile,
     pipe: u32,
 ) -> Result<bool, LxRefusal>
-    ensures { MakesTransfer (bind (at_place files.old.pipes pipe) (read_pipe files.old call.old file f pipe)) files.old call.old files.new call.new result }
+    ensures { MakesTransfer (bind (at_place files.old.pipes pipe) (read_pipe files.old call.old f pipe)) files.old call.old files.new call.new result }
 {
     let Some(Some(room)) = files.pipes.get(pipe as usize) else {
         return Err(LxRefusal::NoStep);
     };
     if room.held() == 0 {
-        return read_nothing(files, call, file, f, pipe);
+        return read_nothing(files, call, f, pipe);
     }
     let bytes = take_from_pipe(alloc, &mut files.pipes, pipe, call.pieces.as_slice())?;
     arm_on(files, FileKind::PipeWrite(pipe));
-    end_with_bytes(files, call, file, bytes);
+    end_with_bytes(files, call, f.number, bytes);
     Ok(false)
 }
 
@@ -148,17 +146,16 @@ fn read_pipe(
     alloc: Global,
     files: &mut Files,
     call: &mut LxCall,
-    file: u32,
-    f: OpenFile,
+    f: NumberedFile,
     pipe: u32,
 ) -> Result<bool, LxRefusal>
-    ensures { MakesTransfer (read_move files.old call.old file f (kind.PipeRead pipe)) files.old call.old files.new call.new result }
+    ensures { MakesTransfer (read_move files.old call.old f (kind.PipeRead pipe)) files.old call.old files.new call.new result }
 {
     if total(call.pieces.as_slice()) == 0 {
-        end_with(files, call, file, 0);
+        end_with(files, call, f.number, 0);
         return Ok(false);
     }
-    read_from_pipe(alloc, files, call, file, f, pipe)
+    read_from_pipe(alloc, files, call, f, pipe)
 }
 
 /// A read from the input: one of no bytes answers 0.
@@ -166,17 +163,16 @@ fn read_input(
     alloc: Global,
     files: &mut Files,
     call: &mut LxCall,
-    file: u32,
-    f: OpenFile,
+    f: NumberedFile,
 ) -> Result<bool, LxRefusal>
-    ensures { MakesTransfer (read_move files.old call.old file f kind.Input) files.old call.old files.new call.new result }
+    ensures { MakesTransfer (read_move files.old call.old f kind.Input) files.old call.old files.new call.new result }
 {
     if total(call.pieces.as_slice()) == 0 {
-        end_with(files, call, file, 0);
+        end_with(files, call, f.number, 0);
         return Ok(false);
     }
     let bytes = take_input(alloc, &mut files.input, call.pieces.as_slice())?;
-    end_with_bytes(files, call, file, bytes);
+    end_with_bytes(files, call, f.number, bytes);
     Ok(false)
 }
 
@@ -227,21 +223,20 @@ fn read_count(
     alloc: Global,
     files: &mut Files,
     call: &mut LxCall,
-    file: u32,
-    f: OpenFile,
+    f: NumberedFile,
     number: u32,
     counter: Counter,
 ) -> Result<bool, LxRefusal>
-    ensures { MakesTransfer (read_counter files.old call.old file f number counter) files.old call.old files.new call.new result }
+    ensures { MakesTransfer (read_counter files.old call.old f number counter) files.old call.old files.new call.new result }
 {
     if total(call.pieces.as_slice()) < 8 {
-        end_refused(files, call, file, LinuxErrno::EINVAL);
+        end_refused(files, call, f.number, LinuxErrno::EINVAL);
         return Ok(false);
     }
     if counter.value == 0 {
-        return wait(files, call, file, f);
+        return wait(files, call, f);
     }
-    count_down(alloc, files, call, file, number, counter)?;
+    count_down(alloc, files, call, f.number, number, counter)?;
     Ok(false)
 }
 
@@ -250,14 +245,13 @@ fn read_counter(
     alloc: Global,
     files: &mut Files,
     call: &mut LxCall,
-    file: u32,
-    f: OpenFile,
+    f: NumberedFile,
     number: u32,
 ) -> Result<bool, LxRefusal>
-    ensures { MakesTransfer (read_move files.old call.old file f (kind.Counter number)) files.old call.old files.new call.new result }
+    ensures { MakesTransfer (read_move files.old call.old f (kind.Counter number)) files.old call.old files.new call.new result }
 {
     match place_at(&files.counters, number) {
-        Some(counter) => read_count(alloc, files, call, file, f, number, counter),
+        Some(counter) => read_count(alloc, files, call, f, number, counter),
         None => Err(LxRefusal::NoStep),
     }
 }
@@ -267,15 +261,14 @@ pub(crate) fn read_move(
     alloc: Global,
     files: &mut Files,
     call: &mut LxCall,
-    file: u32,
-    f: OpenFile,
+    f: NumberedFile,
 ) -> Result<bool, LxRefusal>
-    ensures { MakesTransfer (read_move files.old call.old file f f.kind) files.old call.old files.new call.new result }
+    ensures { MakesTransfer (read_move files.old call.old f f.file.kind) files.old call.old files.new call.new result }
 {
-    match f.kind {
-        FileKind::Input => read_input(alloc, files, call, file, f),
-        FileKind::PipeRead(pipe) => read_pipe(alloc, files, call, file, f, pipe),
-        FileKind::Counter(number) => read_counter(alloc, files, call, file, f, number),
+    match f.file.kind {
+        FileKind::Input => read_input(alloc, files, call, f),
+        FileKind::PipeRead(pipe) => read_pipe(alloc, files, call, f, pipe),
+        FileKind::Counter(number) => read_counter(alloc, files, call, f, number),
         FileKind::Console(_) => Err(LxRefusal::NoStep),
         FileKind::PipeWrite(_) => Err(LxRefusal::NoStep),
         FileKind::Epoll(_) => Err(LxRefusal::NoStep),

@@ -7,11 +7,11 @@ ghost use Rattle.lx_machine.specs.Transfers.{direction_refusal, ends_refused, en
 use crate::reads::read_move;
 use crate::writes::write_move;
 use linux_abi::{Call, LinuxErrno, answer};
-use lx_files::files::{give_back, hold_once, place_at, set_place};
+use lx_files::files::{give_back, hold_once, numbered_at, place_at, set_place};
 use lx_files::interests::arm_on;
 use lx_machine::buffer::NoMemory;
 use lx_machine::calls::LxCall;
-use lx_machine::files::{Counter, FileKind, Files, OpenFile};
+use lx_machine::files::{Counter, FileKind, Files, NumberedFile};
 use lx_machine::refusal::LxRefusal;
 use std::alloc::Global;
 
@@ -42,16 +42,16 @@ fn direction_refusal(reading: bool, kind: FileKind) -> Option<LinuxErrno>
 }
 
 /// Holds this open file, or refuses the call.
-fn hold_file(files: &mut Files, call: &mut LxCall, file: u32, f: OpenFile) -> Result<(), NoMemory>
-    ensures ok { OnOk result (transfer_outcome files.new call.new ≡ hold_file files.old call.old file (Some f)) }
+fn hold_file(files: &mut Files, call: &mut LxCall, f: NumberedFile) -> Result<(), NoMemory>
+    ensures ok { OnOk result (transfer_outcome files.new call.new ≡ hold_file files.old call.old (Some f)) }
     ensures err { OnErr result ((files.new ≡ files.old) × (call.new ≡ call.old)) }
-    ensures full { OnErr result (is_held_most (Some f) ≡ true) }
+    ensures full { OnErr result (is_held_most (Some f.file) ≡ true) }
 {
-    match direction_refusal(is_read(call), f.kind) {
+    match direction_refusal(is_read(call), f.file.kind) {
         Some(e) => call.refuse(e),
         None => {
-            hold_once(files, file, f)?;
-            call.held = Some(file);
+            hold_once(files, f)?;
+            call.held = Some(f.number);
         }
     }
     Ok(())
@@ -68,11 +68,11 @@ pub fn hold(files: &mut Files, call: &mut LxCall) -> Result<(), NoMemory>
         call.refuse(LinuxErrno::EBADF);
         return Ok(());
     };
-    let Some(f) = place_at(&files.files, d.file) else {
+    let Some(f) = numbered_at(files, d.file) else {
         call.refuse(LinuxErrno::EBADF);
         return Ok(());
     };
-    hold_file(files, call, d.file, f)
+    hold_file(files, call, f)
 }
 
 /// The call gives this open file back.
@@ -124,18 +124,13 @@ pub(crate) fn end_refused(files: &mut Files, call: &mut LxCall, file: u32, e: Li
 }
 
 /// A move that has to wait.
-pub(crate) fn wait(
-    files: &mut Files,
-    call: &mut LxCall,
-    file: u32,
-    f: OpenFile,
-) -> Result<bool, LxRefusal>
-    ensures { MakesTransfer (waits files.old call.old file f) files.old call.old files.new call.new result }
+pub(crate) fn wait(files: &mut Files, call: &mut LxCall, f: NumberedFile) -> Result<bool, LxRefusal>
+    ensures { MakesTransfer (waits files.old call.old f) files.old call.old files.new call.new result }
 {
-    if !f.nonblocking {
+    if !f.file.nonblocking {
         return Err(LxRefusal::NoStep);
     }
-    end_refused(files, call, file, LinuxErrno::EAGAIN);
+    end_refused(files, call, f.number, LinuxErrno::EAGAIN);
     Ok(false)
 }
 
@@ -144,15 +139,14 @@ fn move_file(
     alloc: Global,
     files: &mut Files,
     call: &mut LxCall,
-    file: u32,
-    f: OpenFile,
+    f: NumberedFile,
 ) -> Result<bool, LxRefusal>
-    ensures { MakesTransfer (move_file files.old call.old file f) files.old call.old files.new call.new result }
+    ensures { MakesTransfer (move_file files.old call.old f) files.old call.old files.new call.new result }
 {
     if is_read(call) {
-        read_move(alloc, files, call, file, f)
+        read_move(alloc, files, call, f)
     } else {
-        write_move(files, call, file, f)
+        write_move(files, call, f)
     }
 }
 
@@ -165,8 +159,8 @@ pub fn move_bytes(alloc: Global, files: &mut Files, call: &mut LxCall) -> Result
     let Some(file) = call.held else {
         return Err(LxRefusal::NoStep);
     };
-    match place_at(&files.files, file) {
-        Some(f) => move_file(alloc, files, call, file, f),
+    match numbered_at(files, file) {
+        Some(f) => move_file(alloc, files, call, f),
         None => Err(LxRefusal::NoStep),
     }
 }
@@ -188,6 +182,7 @@ pub fn interrupt(files: &mut Files, call: &mut LxCall) -> Result<(), LxRefusal>
     ensures ok { OnOk result (interrupted files.old call.old ≡ Some (transfer_outcome files.new call.new)) }
     ensures err { OnErr result (interrupted files.old call.old ≡ None) }
     ensures kept { OnErr result ((files.new ≡ files.old) × (call.new ≡ call.old)) }
+    ensures no_step { IfErr result (λ e. e ≡ LxRefusal.NoStep) }
 {
     let Some(file) = call.held else {
         return Err(LxRefusal::NoStep);

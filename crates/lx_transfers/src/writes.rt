@@ -17,7 +17,7 @@ use lx_files::files::{has_reader, place_at};
 use lx_files::interests::arm_on;
 use lx_machine::buffer::{Bytes, NoMemory, Room};
 use lx_machine::calls::LxCall;
-use lx_machine::files::{Counter, FileKind, Files, OpenFile};
+use lx_machine::files::{Counter, FileKind, Files, NumberedFile};
 use lx_machine::label::LxSide;
 use lx_machine::refusal::LxRefusal;
 
@@ -48,12 +48,12 @@ pub(crate) fn goes_in(call: &LxCall, room: &Room) -> usize
 }
 
 /// A write whose first n bytes have gone in, so that it has moved so many in all.
-fn wrote(files: &mut Files, call: &mut LxCall, file: u32, f: OpenFile, n: usize, moved: u64)
+fn wrote(files: &mut Files, call: &mut LxCall, f: NumberedFile, n: usize, moved: u64)
     requires { moved ≡ call.old.moved + n }
-    ensures { wrote files.old call.old file f n ≡ Some (transfer_outcome files.new call.new) }
+    ensures { wrote files.old call.old f n ≡ Some (transfer_outcome files.new call.new) }
 {
-    if f.nonblocking || call.bytes.as_slice().len() <= n {
-        end_with(files, call, file, moved);
+    if f.file.nonblocking || call.bytes.as_slice().len() <= n {
+        end_with(files, call, f.number, moved);
     } else {
         call.moved = moved;
         call.bytes.drop_first(n);
@@ -61,20 +61,15 @@ fn wrote(files: &mut Files, call: &mut LxCall, file: u32, f: OpenFile, n: usize,
 }
 
 /// A write that can move nothing.
-fn write_nothing(
-    files: &mut Files,
-    call: &mut LxCall,
-    file: u32,
-    f: OpenFile,
-) -> Result<bool, LxRefusal>
-    ensures { MakesTransfer (write_waits files.old call.old file f) files.old call.old files.new call.new result }
+fn write_nothing(files: &mut Files, call: &mut LxCall, f: NumberedFile) -> Result<bool, LxRefusal>
+    ensures { MakesTransfer (write_waits files.old call.old f) files.old call.old files.new call.new result }
 {
-    if f.nonblocking && call.moved > 0 {
+    if f.file.nonblocking && call.moved > 0 {
         let moved = call.moved;
-        end_with(files, call, file, moved);
+        end_with(files, call, f.number, moved);
         return Ok(false);
     }
-    wait(files, call, file, f)
+    wait(files, call, f)
 }
 
 /// A write to a pipe without a reader.
@@ -126,27 +121,26 @@ fn put_into_pipe(pipes: &mut [Option<Room>], pipe: u32, bytes: &[u8])
 fn write_to_pipe(
     files: &mut Files,
     call: &mut LxCall,
-    file: u32,
-    f: OpenFile,
+    f: NumberedFile,
     pipe: u32,
 ) -> Result<bool, LxRefusal>
-    ensures { MakesTransfer (bind (at_place files.old.pipes pipe) (write_pipe files.old call.old file f pipe)) files.old call.old files.new call.new result }
+    ensures { MakesTransfer (bind (at_place files.old.pipes pipe) (write_pipe files.old call.old f pipe)) files.old call.old files.new call.new result }
 {
     let Some(Some(room)) = files.pipes.get(pipe as usize) else {
         return Err(LxRefusal::NoStep);
     };
     let n = goes_in(call, room);
     if !has_reader(files, pipe) {
-        break_pipe(files, call, file);
+        break_pipe(files, call, f.number);
         return Ok(true);
     }
     if n == 0 {
-        return write_nothing(files, call, file, f);
+        return write_nothing(files, call, f);
     }
     let moved = moved_with(call, n)?;
     put_into_pipe(&mut files.pipes, pipe, &call.bytes.as_slice()[..n]);
     arm_on(files, FileKind::PipeRead(pipe));
-    wrote(files, call, file, f, n, moved);
+    wrote(files, call, f, n, moved);
     Ok(false)
 }
 
@@ -154,17 +148,16 @@ fn write_to_pipe(
 fn write_pipe(
     files: &mut Files,
     call: &mut LxCall,
-    file: u32,
-    f: OpenFile,
+    f: NumberedFile,
     pipe: u32,
 ) -> Result<bool, LxRefusal>
-    ensures { MakesTransfer (write_move files.old call.old file f (kind.PipeWrite pipe)) files.old call.old files.new call.new result }
+    ensures { MakesTransfer (write_move files.old call.old f (kind.PipeWrite pipe)) files.old call.old files.new call.new result }
 {
     if is_at_most(call, 0) {
-        end_with(files, call, file, 0);
+        end_with(files, call, f.number, 0);
         return Ok(false);
     }
-    write_to_pipe(files, call, file, f, pipe)
+    write_to_pipe(files, call, f, pipe)
 }
 
 /// Bytes go into a console room, and behind those that were ever put into it.
@@ -207,19 +200,18 @@ fn put_into_console(files: &mut Files, which: LxSide, bytes: &[u8]) -> Result<()
 fn write_to_console(
     files: &mut Files,
     call: &mut LxCall,
-    file: u32,
-    f: OpenFile,
+    f: NumberedFile,
     which: LxSide,
 ) -> Result<bool, LxRefusal>
-    ensures { MakesTransfer (write_console files.old call.old file f which) files.old call.old files.new call.new result }
+    ensures { MakesTransfer (write_console files.old call.old f which) files.old call.old files.new call.new result }
 {
     let n = goes_into_console(files, call, which);
     if n == 0 {
-        return write_nothing(files, call, file, f);
+        return write_nothing(files, call, f);
     }
     let moved = moved_with(call, n)?;
     put_into_console(files, which, &call.bytes.as_slice()[..n])?;
-    wrote(files, call, file, f, n, moved);
+    wrote(files, call, f, n, moved);
     Ok(false)
 }
 
@@ -227,30 +219,28 @@ fn write_to_console(
 fn write_console(
     files: &mut Files,
     call: &mut LxCall,
-    file: u32,
-    f: OpenFile,
+    f: NumberedFile,
     which: LxSide,
 ) -> Result<bool, LxRefusal>
-    ensures { MakesTransfer (write_move files.old call.old file f (kind.Console which)) files.old call.old files.new call.new result }
+    ensures { MakesTransfer (write_move files.old call.old f (kind.Console which)) files.old call.old files.new call.new result }
 {
     if is_at_most(call, 0) {
-        end_with(files, call, file, 0);
+        end_with(files, call, f.number, 0);
         return Ok(false);
     }
-    write_to_console(files, call, file, f, which)
+    write_to_console(files, call, f, which)
 }
 
 /// A write that adds this number to a counter.
 fn add_to_counter(
     files: &mut Files,
     call: &mut LxCall,
-    file: u32,
-    f: OpenFile,
+    f: NumberedFile,
     number: u32,
     counter: Counter,
     added: u64,
 ) -> Result<bool, LxRefusal>
-    ensures { MakesTransfer (if nat_lt (2 ^ 64 - 2) (counter.value + added) then waits files.old call.old file f else ends_with (with_counter files.old number record counter { value = counter.value + added }) call.old file 8) files.old call.old files.new call.new result }
+    ensures { MakesTransfer (if nat_lt (2 ^ 64 - 2) (counter.value + added) then waits files.old call.old f else ends_with (with_counter files.old number record counter { value = counter.value + added }) call.old f.number 8) files.old call.old files.new call.new result }
 {
     match counter.value.checked_add(added) {
         Some(value) if value < u64::MAX => {
@@ -259,10 +249,10 @@ fn add_to_counter(
                 semaphore: counter.semaphore,
             };
             set_counter(files, number, more);
-            end_with(files, call, file, 8);
+            end_with(files, call, f.number, 8);
             Ok(false)
         }
-        _ => wait(files, call, file, f),
+        _ => wait(files, call, f),
     }
 }
 
@@ -270,38 +260,36 @@ fn add_to_counter(
 fn write_count(
     files: &mut Files,
     call: &mut LxCall,
-    file: u32,
-    f: OpenFile,
+    f: NumberedFile,
     at: u32,
     counter: Counter,
 ) -> Result<bool, LxRefusal>
-    ensures { MakesTransfer (write_counter files.old call.old file f at counter) files.old call.old files.new call.new result }
+    ensures { MakesTransfer (write_counter files.old call.old f at counter) files.old call.old files.new call.new result }
 {
     let bytes = call.bytes.as_slice();
     if bytes.len() < 8 {
-        end_refused(files, call, file, LinuxErrno::EINVAL);
+        end_refused(files, call, f.number, LinuxErrno::EINVAL);
         return Ok(false);
     }
     let added = number(bytes, 0);
     if added == u64::MAX {
-        end_refused(files, call, file, LinuxErrno::EINVAL);
+        end_refused(files, call, f.number, LinuxErrno::EINVAL);
         return Ok(false);
     }
-    add_to_counter(files, call, file, f, at, counter, added)
+    add_to_counter(files, call, f, at, counter, added)
 }
 
 /// A write to a counter.
 fn write_counter(
     files: &mut Files,
     call: &mut LxCall,
-    file: u32,
-    f: OpenFile,
+    f: NumberedFile,
     at: u32,
 ) -> Result<bool, LxRefusal>
-    ensures { MakesTransfer (write_move files.old call.old file f (kind.Counter at)) files.old call.old files.new call.new result }
+    ensures { MakesTransfer (write_move files.old call.old f (kind.Counter at)) files.old call.old files.new call.new result }
 {
     match place_at(&files.counters, at) {
-        Some(counter) => write_count(files, call, file, f, at, counter),
+        Some(counter) => write_count(files, call, f, at, counter),
         None => Err(LxRefusal::NoStep),
     }
 }
@@ -310,15 +298,14 @@ fn write_counter(
 pub(crate) fn write_move(
     files: &mut Files,
     call: &mut LxCall,
-    file: u32,
-    f: OpenFile,
+    f: NumberedFile,
 ) -> Result<bool, LxRefusal>
-    ensures { MakesTransfer (write_move files.old call.old file f f.kind) files.old call.old files.new call.new result }
+    ensures { MakesTransfer (write_move files.old call.old f f.file.kind) files.old call.old files.new call.new result }
 {
-    match f.kind {
-        FileKind::Console(which) => write_console(files, call, file, f, which),
-        FileKind::PipeWrite(pipe) => write_pipe(files, call, file, f, pipe),
-        FileKind::Counter(number) => write_counter(files, call, file, f, number),
+    match f.file.kind {
+        FileKind::Console(which) => write_console(files, call, f, which),
+        FileKind::PipeWrite(pipe) => write_pipe(files, call, f, pipe),
+        FileKind::Counter(number) => write_counter(files, call, f, number),
         FileKind::Input => Err(LxRefusal::NoStep),
         FileKind::PipeRead(_) => Err(LxRefusal::NoStep),
         FileKind::Epoll(_) => Err(LxRefusal::NoStep),

@@ -4,7 +4,7 @@ use Rattle.lx_machine.specs.declared.threads.LxThread.{LxThread}
 use Rattle.lx_step.specs.CallSteps.{is_gone}
 use Rattle.lx_step.proofs.PutBack.{thread_back}
 use Rattle.lx_step.proofs.Staged.{stays}
-use Rattle.lx_step.proofs.slots.gone.Goals as goal
+use Rattle.lx_step.proofs.slots.gone_at.Goals as goal
 
 pub returns-else-is_gone : goal.returns-else-is_gone
 returns-else-is_gone c =
