@@ -159,6 +159,22 @@ impl Kqueue {
         }
     }
 
+    /// Lets all interests and the flux go.
+    pub fn clear(&mut self)
+        ensures { self.new ≡ record { watches = []; flux = None } }
+    {
+        self.watches.clear();
+        self.flux = None;
+    }
+
+    /// How many interests stand.
+    pub fn count(&self) -> usize
+        ensures count { result ≡ length self.now.watches }
+        ensures most { result ≤ 512 }
+    {
+        self.watches.len()
+    }
+
     /// Whether a flux stands.
     pub fn in_flux(&self) -> bool
         ensures { result ≡ is_some self.now.flux }

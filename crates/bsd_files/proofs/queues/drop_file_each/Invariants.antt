@@ -1,0 +1,8 @@
+use Rattle.std.proofs.Common.{◌≡◌, ◌++◌, take, drop, map}
+use Rattle.std.specs.Option.{option_map}
+use Rattle.bsd_files.specs.Ops.{left_by}
+use Rattle.bsd_files.proofs.queues.drop_file_each.Given as goal
+
+-- the places so far are changed, and those to come are as they were
+abbrev pub invariant-loop-place : goal.invariant-loop-place
+invariant-loop-place l = l.places ≡ map (option_map (left_by l.file)) (take l.place-index l.fn.places) ++ drop l.place-index l.fn.places

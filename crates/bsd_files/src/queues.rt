@@ -1,0 +1,321 @@
+//! The queues (kqueue(2)), and what an event of an open file does to all of them.
+ghost use Rattle.std.specs.Prelude.{◌≡◌, ◌<◌, ◌^◌, [], length, map, replicate, position, is_none, is_some, IsSome, Some, None, IfOk, IfSome, MatchOption, if◌then◌else◌};
+ghost use Rattle.std.specs.Option.{option_map};
+ghost use Rattle.std.specs.List.{list_any};
+ghost use Rattle.std.specs.Borrow.{sem};
+ghost use Rattle.lx_machine.specs.Interests.{is_open_of};
+ghost use Rattle.lx_machine.specs.Lists.{at_place, first_free, with_place, without_place};
+ghost use Rattle.bsd_files.specs.Kinds.{kind_out};
+ghost use Rattle.bsd_files.specs.Lending.{LendsOpen, LendsQueue};
+ghost use Rattle.bsd_files.specs.Ops.{Arm, Leave, activated_for, activated_in_queue, in_queues, left_by};
+ghost use Rattle.bsd_files.specs.State.{has_flux, has_flux_on};
+
+use crate::kinds::{File, NoMemory};
+use crate::numbers::place_at;
+use crate::open_files::{OpenFile, is_open_of};
+use kqueue_core::{Filter, Kqueue};
+use std::alloc::Global;
+use std::marker::Model;
+
+/// How many queues there can be.
+pub(crate) const QUEUES: usize = 32;
+
+/// The place of a queue, which contracts see as the queue, if there is one. It keeps the room while there is none.
+#[derive(Drop)]
+pub(crate) struct QueuePlace {
+    queue: Kqueue,
+    is_open: bool,
+}
+
+impl Model for QueuePlace {
+    ghost use Rattle.std.specs.Prelude.{Option, Some, None, if◌then◌else◌};
+    ghost use Rattle.kqueue_core.specs.Queues.{Queue};
+
+    ghost Value = { Option Queue };
+
+    ghost view = { λ p. if p.is_open then Some p.queue else None };
+}
+
+impl QueuePlace {
+    // No queue.
+    fn make(alloc: Global) -> Result<QueuePlace, NoMemory>
+        ensures { IfOk result (λ place. place ≡ None) }
+    {
+        let Ok(queue) = Kqueue::make(alloc) else {
+            return Err(NoMemory);
+        };
+        Ok(QueuePlace {
+            queue,
+            is_open: false,
+        })
+    }
+
+    // A new queue.
+    fn open(&mut self)
+        ensures { self.new ≡ Some record { watches = []; flux = None } }
+    {
+        self.queue.clear();
+        self.is_open = true;
+    }
+
+    // The queue is gone.
+    fn close(&mut self)
+        ensures { self.new ≡ None }
+    {
+        self.is_open = false;
+    }
+
+    // Whether there is none.
+    fn is_free(&self) -> bool
+        ensures { result ≡ is_none self.now }
+    {
+        !self.is_open
+    }
+
+    // Makes the knotes of an open file and a filter active.
+    fn activate(&mut self, file: u32, filter: Filter)
+        ensures { self.new ≡ option_map (activated_in_queue file filter) self.old }
+    {
+        if self.is_open {
+            self.queue.activate(file, filter);
+        }
+    }
+
+    // Takes out the knotes of an open file.
+    fn drop_file(&mut self, file: u32)
+        ensures { self.new ≡ option_map (left_by file) self.old }
+    {
+        if self.is_open {
+            self.queue.drop_file(file);
+        }
+    }
+
+    // Whether a flux stands.
+    fn in_flux(&self) -> bool
+        ensures { result ≡ has_flux self.now }
+    {
+        self.is_open && self.queue.in_flux()
+    }
+
+    // Whether a flux on this descriptor stands.
+    fn in_flux_on(&self, fd: u32) -> bool
+        ensures { result ≡ has_flux_on fd self.now }
+    {
+        if !self.is_open {
+            return false;
+        }
+        match self.queue.flux_of() {
+            Some(descriptor) => descriptor == fd,
+            None => false,
+        }
+    }
+
+    // The queue.
+    fn queue(&self) -> Option<&Kqueue>
+        ensures { MatchOption result (self.now ≡ None) (λ q. self.now ≡ Some q.now) }
+    {
+        if self.is_open {
+            Some(&self.queue)
+        } else {
+            None
+        }
+    }
+
+    // Lends the queue, which has to be there.
+    fn queue_mut(&mut self) -> &mut Kqueue
+        requires { IsSome self.old }
+        ensures* writes_back { sem 𝓛 (LendsOpen self.entry result) }
+        ensures value { self.old ≡ Some result.now }
+    {
+        &mut self.queue
+    }
+}
+
+/// The queues, each at its number, which contracts see as a list of places. Until the first is made no open file has knotes, and
+/// `is_used` says so: then an event of an open file costs nothing.
+#[derive(Drop)]
+pub(crate) struct Queues {
+    places: Vec<QueuePlace>,
+    is_used: bool,
+}
+
+impl Model for Queues {
+    ghost use Rattle.std.specs.Prelude.{◌≡◌, ◌<◌, ◌^◌, List, Option, None, false, length, replicate};
+    ghost use Rattle.kqueue_core.specs.Queues.{Queue};
+
+    ghost Value = { List (Option Queue) };
+
+    ghost view = { λ q. q.places.items };
+
+    ghost invariant = { λ q. (q.is_used ≡ false → q.places.items ≡ replicate 32 None) × (length q.places.items < 2 ^ 32) };
+}
+
+// Makes the knotes of an open file and a filter active, in each queue.
+fn activate_each(places: &mut [QueuePlace], file: u32, filter: Filter)
+    ensures { places.new ≡ map (option_map (activated_in_queue file filter)) places.old }
+{
+    for place in places.iter_mut() {
+        place.activate(file, filter);
+    }
+}
+
+// Takes out the knotes of an open file, in each queue.
+fn drop_file_each(places: &mut [QueuePlace], file: u32)
+    ensures { places.new ≡ map (option_map (left_by file)) places.old }
+{
+    for place in places.iter_mut() {
+        place.drop_file(file);
+    }
+}
+
+// Makes the knotes of an open file and a filter active, in each queue, where the open file is this.
+fn activate_if(
+    places: &mut [QueuePlace],
+    kind: File,
+    filter: Filter,
+    number: u32,
+    file: Option<OpenFile>,
+)
+    ensures { places.new ≡ (if is_open_of (kind_out kind) file then map (option_map (activated_in_queue number filter)) places.old else places.old) }
+{
+    if is_open_of(kind, file) {
+        activate_each(places, number, filter);
+    }
+}
+
+// Makes the knotes of the open files that are this active, in each queue.
+fn activate_for(places: &mut [QueuePlace], kind: File, filter: Filter, files: &[Option<OpenFile>])
+    requires { length files.now < 2 ^ 32 }
+    ensures { places.new ≡ map (option_map (activated_for (kind_out kind) filter files.now)) places.old }
+{
+    for at in 0..files.len() {
+        let number = at as u32;
+        activate_if(places, kind, filter, number, place_at(files, number));
+    }
+}
+
+// Where the first free place stands.
+fn free_at(places: &[QueuePlace]) -> Option<usize>
+    ensures place { result ≡ position is_none places.now }
+    ensures fits { IfSome result (λ i. i < length places.now) }
+{
+    places.iter().position(|place| place.is_free())
+}
+
+// Places without queues.
+fn free_places(alloc: Global) -> Result<Vec<QueuePlace>, NoMemory>
+    ensures { IfOk result (λ places. places.items ≡ replicate 32 None) }
+{
+    let Ok(mut places) = Vec::with_capacity(alloc, QUEUES) else {
+        return Err(NoMemory);
+    };
+    for _ in 0..QUEUES {
+        places.push_reserved(QueuePlace::make(alloc)?);
+    }
+    Ok(places)
+}
+
+impl Queues {
+    // No queues.
+    pub(crate) fn make(alloc: Global) -> Result<Queues, NoMemory>
+        ensures { IfOk result (λ queues. queues ≡ replicate 32 None) }
+    {
+        let places = free_places(alloc)?;
+        Ok(Queues {
+            places,
+            is_used: false,
+        })
+    }
+
+    // A new queue at a number.
+    pub(crate) fn open(&mut self, number: u32)
+        requires { number < length self.old }
+        ensures { self.new ≡ with_place self.old number record { watches = []; flux = None } }
+    {
+        self.is_used = true;
+        let place = &mut self.places[number as usize];
+        place.open();
+    }
+
+    // The queue of a number is gone.
+    pub(crate) fn close(&mut self, number: u32)
+        ensures { self.new ≡ without_place self.old number }
+    {
+        self.is_used = true;
+        if let Some(place) = self.places.get_mut(number as usize) {
+            place.close();
+        }
+    }
+
+    // The lowest number without a queue.
+    #[tactic(auto, using(crate::proofs::Free::free_position))]
+    pub(crate) fn first_free(&self) -> Option<u32>
+        ensures number { result ≡ first_free self.now }
+        ensures fits { IfSome result (λ n. n < length self.now) }
+    {
+        match free_at(&self.places) {
+            Some(at) => Some(at as u32),
+            None => None,
+        }
+    }
+
+    // Takes out the knotes of an open file.
+    pub(crate) fn drop_file(&mut self, file: u32)
+        ensures { self.new ≡ in_queues (Leave file) self.old }
+    {
+        if self.is_used {
+            drop_file_each(&mut self.places, file);
+        }
+    }
+
+    // Makes the knotes of the open files that are this active, of one filter.
+    pub(crate) fn activate(&mut self, kind: File, filter: Filter, files: &[Option<OpenFile>])
+        requires { length files.now < 2 ^ 32 }
+        ensures { self.new ≡ in_queues (Arm (kind_out kind) filter files.now) self.old }
+    {
+        if self.is_used {
+            activate_for(&mut self.places, kind, filter, files);
+        }
+    }
+
+    // Whether a flux on this descriptor stands in some queue.
+    pub(crate) fn in_flux_on(&self, fd: u32) -> bool
+        ensures { result ≡ list_any (has_flux_on fd) self.now }
+    {
+        self.places.iter().any(|place| place.in_flux_on(fd))
+    }
+
+    // The queue of a number.
+    pub(crate) fn queue(&self, number: u32) -> Option<&Kqueue>
+        ensures { MatchOption result (at_place self.now number ≡ None) (λ q. at_place self.now number ≡ Some q.now) }
+    {
+        match self.places.get(number as usize) {
+            Some(place) => place.queue(),
+            None => None,
+        }
+    }
+
+    // Whether there is a queue of this number.
+    fn is_open(&self, number: u32) -> bool
+        ensures { result ≡ is_some (at_place self.now number) }
+    {
+        match self.places.get(number as usize) {
+            Some(place) => !place.is_free(),
+            None => false,
+        }
+    }
+
+    // Lends the queue of a number.
+    pub(crate) fn queue_mut(&mut self, number: u32) -> Option<&mut Kqueue>
+        ensures* writes_back { sem 𝓛 (LendsQueue self.entry number result) }
+        ensures value { MatchOption result (at_place self.old number ≡ None) (λ q. at_place self.old number ≡ Some q.now) }
+    {
+        if self.is_open(number) {
+            self.is_used = true;
+            let place = &mut self.places[number as usize];
+            Some(place.queue_mut())
+        } else {
+            None
+        }
+    }
+}
