@@ -21,7 +21,7 @@ pub struct ThreadSeen {
 }
 
 /// Why a guest doesn't start.
-#[derive(Clone, Copy, Debug, PartialEq, Eq)]
+#[derive(Clone, Copy)]
 pub enum NoStart {
     /// Memory is wanting.
     NoMemory,

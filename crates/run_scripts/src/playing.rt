@@ -2,7 +2,7 @@
 ghost use Rattle.std.specs.Prelude.{◌≡◌, ◌≢◌, ◌↔◌, ◌≤◌, IfOk, IfErr, IsOk};
 ghost use Rattle.run_scripts.specs.declared.seen.Seen.TheVariants as seen;
 
-use crate::playable::{NoStart, Playable, ThreadSeen};
+use crate::playable::{InCall, NoStart, Playable, ThreadSeen};
 use crate::script::{Deed, Guest, Line, Play, Register, Script, Statement, Turns};
 use crate::seen::Seen;
 use std::alloc::{AllocError, Global};
@@ -11,7 +11,7 @@ use std::alloc::{AllocError, Global};
 const MANY: u64 = 1_000_000;
 
 /// A line that doesn't hold.
-#[derive(Clone, Copy, Debug)]
+#[derive(Clone, Copy)]
 pub struct Miss {
     pub line: usize,
     pub expected: Seen,
@@ -19,7 +19,7 @@ pub struct Miss {
 }
 
 /// Why a script isn't played to its end.
-#[derive(Clone, Copy, Debug)]
+#[derive(Clone, Copy)]
 pub enum Stopped {
     NoMemory,
     /// A guest doesn't start, since the machine refuses its program.
@@ -34,6 +34,12 @@ impl From<AllocError> for Stopped {
     }
 }
 
+impl From<Miss> for Stopped {
+    fn from(miss: Miss) -> Stopped {
+        Stopped::Missed(miss)
+    }
+}
+
 impl From<NoStart> for Stopped {
     fn from(why: NoStart) -> Stopped {
         match why {
@@ -43,9 +49,9 @@ impl From<NoStart> for Stopped {
     }
 }
 
-/// The number of the call that the thread in a slot is in.
-fn call_number<P: Playable>(machine: &P, slot: u8) -> Option<u64> {
-    Some(machine.thread(slot)?.call?.number)
+/// The call that the thread in a slot is in.
+fn call_of<P: Playable>(machine: &P, slot: u8) -> Option<InCall> {
+    machine.thread(slot)?.call
 }
 
 /// The thread comes to this call: it takes steps until it has entered it. It leaves the one that it is in.
@@ -55,10 +61,10 @@ fn enters<P: Playable>(
     slot: u8,
     wanted: u64,
 ) -> Result<Seen, AllocError> {
-    let mut left = call_number(machine, slot).is_none();
+    let mut left = call_of(machine, slot).is_none();
     for _ in 0..MANY {
-        match call_number(machine, slot) {
-            Some(number) if left && number == wanted => return Ok(Seen::Call(number)),
+        match call_of(machine, slot) {
+            Some(call) if left && call.number == wanted => return Ok(Seen::Call(wanted)),
             Some(_) => {}
             None => left = true,
         }
@@ -103,7 +109,7 @@ fn answer_of<P: Playable>(machine: &P, slot: u8) -> Seen {
 /// What the call of a thread answers, once it has taken its steps.
 fn answers<P: Playable>(machine: &mut P, alloc: Global, slot: u8) -> Result<Seen, AllocError> {
     for _ in 0..MANY {
-        if call_number(machine, slot).is_none() {
+        if call_of(machine, slot).is_none() {
             return Ok(answer_of(machine, slot));
         }
         if !machine.step(alloc, slot)? {
@@ -111,11 +117,6 @@ fn answers<P: Playable>(machine: &mut P, alloc: Global, slot: u8) -> Result<Seen
         }
     }
     Ok(Seen::NoRest)
-}
-
-/// What the call of a thread returns, where it has only to return.
-fn due_of(thread: Option<ThreadSeen>) -> Option<u64> {
-    thread?.call?.due
 }
 
 /// An answer, where there is one.
@@ -132,11 +133,6 @@ fn number_if_any(value: Option<u64>) -> Seen {
         Some(value) => Seen::Number(value),
         None => Seen::Nothing,
     }
-}
-
-/// The deadline of a thread's call.
-fn deadline_of(thread: Option<ThreadSeen>) -> Option<u64> {
-    thread?.call?.deadline
 }
 
 /// What is expected of a thread.
@@ -157,6 +153,35 @@ fn expected_of_thread(deed: Deed) -> Seen {
     }
 }
 
+/// What is found in a thread that is there: of a deed that asks for no more, that it is there.
+fn found_in(thread: ThreadSeen, deed: Deed) -> Seen {
+    match deed {
+        Deed::Marks(_) | Deed::Unmarked => number_if_any(thread.marked),
+        Deed::Tid(_) => Seen::Number(u64::from(thread.tid)),
+        Deed::Blocks(_) => Seen::Number(thread.blocked),
+        _ => Seen::Thread(true),
+    }
+}
+
+/// What is found of the thread in a slot, as it stands.
+fn found_in_slot<P: Playable>(machine: &P, slot: u8, deed: Deed) -> Seen {
+    match deed {
+        Deed::Has(register, _) => number_if_any(machine.register(slot, register)),
+        Deed::Due(_) => match call_of(machine, slot) {
+            Some(call) => answer_if_any(call.due),
+            None => Seen::Nothing,
+        },
+        Deed::Deadline(_) => match call_of(machine, slot) {
+            Some(call) => number_if_any(call.deadline),
+            None => Seen::Nothing,
+        },
+        _ => match machine.thread(slot) {
+            Some(thread) => found_in(thread, deed),
+            None => Seen::Thread(false),
+        },
+    }
+}
+
 /// What is found of a thread, once it has done what it is to do.
 fn found_of_thread<P: Playable>(
     machine: &mut P,
@@ -171,37 +196,7 @@ fn found_of_thread<P: Playable>(
         Deed::Stuck => Ok(Seen::Step(machine.step(alloc, slot)?)),
         Deed::Takes(step) | Deed::Lacks(step) => Ok(Seen::Step(machine.take(alloc, slot, step)?)),
         Deed::Answers(_) => answers(machine, alloc, slot),
-        Deed::Due(_) => Ok(answer_if_any(due_of(machine.thread(slot)))),
-        Deed::Has(register, _) => Ok(number_if_any(machine.register(slot, register))),
-        Deed::Deadline(_) => Ok(number_if_any(deadline_of(machine.thread(slot)))),
-        Deed::Marks(_) | Deed::Unmarked => Ok(mark_of(machine.thread(slot))),
-        Deed::Tid(_) => Ok(tid_of(machine.thread(slot))),
-        Deed::Blocks(_) => Ok(blocked_by(machine.thread(slot))),
-        Deed::Lives | Deed::Absent => Ok(Seen::Thread(machine.thread(slot).is_some())),
-    }
-}
-
-/// The granule of a thread's exclusive mark.
-fn mark_of(thread: Option<ThreadSeen>) -> Seen {
-    match thread {
-        Some(thread) => number_if_any(thread.marked),
-        None => Seen::Thread(false),
-    }
-}
-
-/// The tid of a thread.
-fn tid_of(thread: Option<ThreadSeen>) -> Seen {
-    match thread {
-        Some(thread) => Seen::Number(u64::from(thread.tid)),
-        None => Seen::Thread(false),
-    }
-}
-
-/// The signals that a thread blocks.
-fn blocked_by(thread: Option<ThreadSeen>) -> Seen {
-    match thread {
-        Some(thread) => Seen::Number(thread.blocked),
-        None => Seen::Thread(false),
+        _ => Ok(found_in_slot(machine, slot, deed)),
     }
 }
 
@@ -209,9 +204,9 @@ fn blocked_by(thread: Option<ThreadSeen>) -> Seen {
 fn difference(expected: &[u8], found: &[u8]) -> Seen
     ensures { result ≢ seen.Same }
 {
-    for (place, (one, other)) in expected.iter().zip(found.iter()).enumerate() {
-        if *one != *other {
-            return Seen::Byte(place, *other);
+    for place in 0..expected.len().min(found.len()) {
+        if expected[place] != found[place] {
+            return Seen::Byte(place, found[place]);
         }
     }
     Seen::Length(found.len() as u64)
@@ -228,31 +223,13 @@ fn compared(expected: &[u8], found: &[u8]) -> Seen
     }
 }
 
-/// The 4 bytes at an address, as a number.
-fn word_at<P: Playable>(machine: &P, at: u64) -> Seen {
-    let mut bytes = [0; 4];
-    if machine.load(at, &mut bytes) {
-        Seen::Number(u64::from(u32::from_le_bytes(bytes)))
-    } else {
-        Seen::Nothing
-    }
-}
-
-/// The 8 bytes at an address, as a number.
-fn doubleword_at<P: Playable>(machine: &P, at: u64) -> Seen {
+/// The number of so many bytes at an address.
+fn number_at<P: Playable>(machine: &P, at: u64, count: usize) -> Seen
+    requires { count ≤ 8 }
+{
     let mut bytes = [0; 8];
-    if machine.load(at, &mut bytes) {
+    if machine.load(at, &mut bytes[..count]) {
         Seen::Number(u64::from_le_bytes(bytes))
-    } else {
-        Seen::Nothing
-    }
-}
-
-/// The byte at an address.
-fn byte_at<P: Playable>(machine: &P, at: u64) -> Seen {
-    let mut bytes = [0; 1];
-    if machine.load(at, &mut bytes) {
-        Seen::Number(u64::from(bytes[0]))
     } else {
         Seen::Nothing
     }
@@ -290,6 +267,26 @@ fn expected_by(statement: &Statement) -> Seen {
     }
 }
 
+/// What is found by a statement that changes nothing.
+fn looked_at<P: Playable>(
+    machine: &P,
+    alloc: Global,
+    statement: &Statement,
+) -> Result<Seen, AllocError> {
+    match statement {
+        Statement::Word(at, _) => Ok(number_at(machine, *at, 4)),
+        Statement::Doubleword(at, _) => Ok(number_at(machine, *at, 8)),
+        Statement::Bytes(at, expected) => bytes_at(machine, alloc, *at, expected),
+        Statement::Unreadable(at) => Ok(number_at(machine, *at, 1)),
+        Statement::Room(side, expected) => Ok(compared(expected, machine.room(*side))),
+        Statement::RoomHolds(side, _) => Ok(Seen::Length(machine.room(*side).len() as u64)),
+        Statement::Wrote(side, expected) => Ok(compared(expected, machine.written(*side))),
+        Statement::WroteBytes(side, _) => Ok(Seen::Length(machine.written(*side).len() as u64)),
+        Statement::Labels(_) => Ok(Seen::Labels(machine.labels())),
+        _ => Ok(Seen::End(machine.end())),
+    }
+}
+
 /// What is found by a statement, once what it says is done.
 fn found_by<P: Playable>(
     machine: &mut P,
@@ -304,16 +301,7 @@ fn found_by<P: Playable>(
         }
         Statement::Drain(side, count) => Ok(Seen::Step(machine.drain(alloc, *side, *count)?)),
         Statement::Run(_) => Ok(Seen::End(machine.run(alloc, turns)?)),
-        Statement::Ended(_) | Statement::GoesOn => Ok(Seen::End(machine.end())),
-        Statement::Word(at, _) => Ok(word_at(machine, *at)),
-        Statement::Doubleword(at, _) => Ok(doubleword_at(machine, *at)),
-        Statement::Bytes(at, expected) => bytes_at(machine, alloc, *at, expected),
-        Statement::Unreadable(at) => Ok(byte_at(machine, *at)),
-        Statement::Room(side, expected) => Ok(compared(expected, machine.room(*side))),
-        Statement::RoomHolds(side, _) => Ok(Seen::Length(machine.room(*side).len() as u64)),
-        Statement::Wrote(side, expected) => Ok(compared(expected, machine.written(*side))),
-        Statement::WroteBytes(side, _) => Ok(Seen::Length(machine.written(*side).len() as u64)),
-        Statement::Labels(_) => Ok(Seen::Labels(machine.labels())),
+        _ => looked_at(machine, alloc, statement),
     }
 }
 
@@ -342,7 +330,7 @@ fn play_line<P: Playable>(
 ) -> Result<(), Stopped> {
     let expected = expected_by(&line.statement);
     let found = found_by(machine, alloc, turns, &line.statement)?;
-    judge(line.number, expected, found).map_err(Stopped::Missed)
+    Ok(judge(line.number, expected, found)?)
 }
 
 /// Plays a guest once, and says how many labels it took.

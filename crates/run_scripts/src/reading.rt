@@ -6,9 +6,10 @@ use crate::statements::statement;
 use crate::tokens::{bytes, code_word, number};
 use std::alloc::{AllocError, Global};
 use std::fmt;
+use std::num::{ParseIntError, TryFromIntError};
 
 /// What is wrong with a line.
-#[derive(Clone, Copy, Debug, PartialEq, Eq)]
+#[derive(Clone, Copy)]
 pub enum What {
     NoMemory,
     NotANumber,
@@ -37,6 +38,18 @@ impl From<AllocError> for What {
     }
 }
 
+impl From<ParseIntError> for What {
+    fn from(_: ParseIntError) -> What {
+        What::NotANumber
+    }
+}
+
+impl From<TryFromIntError> for What {
+    fn from(_: TryFromIntError) -> What {
+        What::NotANumber
+    }
+}
+
 impl fmt::Display for What {
     fn fmt<W: fmt::Write>(&self, f: &mut fmt::Formatter<W>) -> fmt::Result {
         f.write_str(match self {
@@ -59,10 +72,15 @@ impl fmt::Display for What {
 }
 
 /// A line that is wrong, by its number from 1 on. 0: the script has no lines.
-#[derive(Clone, Copy, Debug)]
+#[derive(Clone, Copy)]
 pub struct ScriptFault {
     pub line: usize,
     pub what: What,
+}
+
+/// Puts one more behind the last.
+fn push<T: Drop>(all: &mut Vec<T>, one: T) -> Result<(), AllocError> {
+    Ok(all.push(one)?)
 }
 
 /// The words of a line. A line that begins with `#` has none.
@@ -125,7 +143,7 @@ fn read_guest_line(alloc: Global, guest: &mut Guest, words: &[&str]) -> Result<b
         ["words", rest @ ..] => guest.words = read_words(alloc, rest)?,
         ["input", content] => guest.input = bytes(alloc, content)?,
         [first, ..] => match code_word(first) {
-            Some(word) => guest.code.push(word).map_err(AllocError::from)?,
+            Some(word) => push(&mut guest.code, word)?,
             None => return Ok(false),
         },
         [] => return Ok(false),
@@ -174,9 +192,7 @@ fn read_statement(
     match guest.plays.last_mut() {
         Some(play) => {
             let statement = statement(alloc, words)?;
-            play.lines
-                .push(Line { number, statement })
-                .map_err(AllocError::from)?;
+            push(&mut play.lines, Line { number, statement })?;
             Ok(())
         }
         None => Err(What::NotAStatement),
@@ -194,10 +210,7 @@ fn read_in_guest(
         if !is_said(guest) {
             return Err(What::NoPlay);
         }
-        guest
-            .plays
-            .push(new_play(alloc, rest)?)
-            .map_err(AllocError::from)?;
+        push(&mut guest.plays, new_play(alloc, rest)?)?;
         return Ok(());
     }
     if guest.plays.is_empty() {
@@ -217,10 +230,7 @@ fn read_line(
 ) -> Result<(), What> {
     if let ["guest"] = words {
         is_last_whole(script)?;
-        script
-            .guests
-            .push(new_guest(alloc)?)
-            .map_err(AllocError::from)?;
+        push(&mut script.guests, new_guest(alloc)?)?;
         return Ok(());
     }
     match script.guests.last_mut() {

@@ -16,7 +16,7 @@ pub enum Register {
 }
 
 /// How a guest ends: by an exit with a code, by a signal, or not at all, since no thread has a step.
-#[derive(Clone, Copy, Debug, PartialEq, Eq)]
+#[derive(Clone, Copy, PartialEq, Eq)]
 pub enum End {
     Exit(u8),
     Signal(u8),

@@ -3,7 +3,7 @@ use crate::script::End;
 use std::fmt;
 
 /// What a line expects, or what was found in its place.
-#[derive(Clone, Copy, Debug, PartialEq, Eq)]
+#[derive(Clone, Copy, PartialEq, Eq)]
 pub enum Seen {
     /// There is no such thing.
     Nothing,
@@ -42,25 +42,32 @@ fn write_end<W: fmt::Write>(end: End, f: &mut fmt::Formatter<W>) -> fmt::Result 
     }
 }
 
+// What no number stands in, in words.
+fn plain_words(seen: Seen) -> &'static str {
+    match seen {
+        Seen::NoRest => "no rest",
+        Seen::Step(true) => "a step",
+        Seen::Step(false) => "no step",
+        Seen::Thread(true) => "a thread",
+        Seen::Thread(false) => "no thread",
+        Seen::End(_) => "no end",
+        Seen::Same => "the bytes",
+        _ => "nothing",
+    }
+}
+
 impl fmt::Display for Seen {
     fn fmt<W: fmt::Write>(&self, f: &mut fmt::Formatter<W>) -> fmt::Result {
         match *self {
-            Seen::Nothing => f.write_str("nothing"),
             Seen::Number(n) => write!(f, "{n:#x}"),
             Seen::Answer(n) => write!(f, "answer {n}"),
             Seen::Call(n) => write!(f, "call {n}"),
             Seen::Steps(n) => write!(f, "{n} steps"),
-            Seen::NoRest => f.write_str("no rest"),
-            Seen::Step(true) => f.write_str("a step"),
-            Seen::Step(false) => f.write_str("no step"),
-            Seen::Thread(true) => f.write_str("a thread"),
-            Seen::Thread(false) => f.write_str("no thread"),
             Seen::End(Some(end)) => write_end(end, f),
-            Seen::End(None) => f.write_str("no end"),
-            Seen::Same => f.write_str("the bytes"),
             Seen::Byte(place, byte) => write!(f, "byte {byte:02x} at {place}"),
             Seen::Length(n) => write!(f, "{n} bytes"),
             Seen::Labels(n) => write!(f, "{n} labels"),
+            seen => f.write_str(plain_words(seen)),
         }
     }
 }

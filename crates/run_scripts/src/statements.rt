@@ -194,23 +194,24 @@ fn memory(alloc: Global, kind: &str, words: &[&str]) -> Result<Statement, What> 
     }
 }
 
-/// A statement of the machine.
-fn of_machine(alloc: Global, first: &str, rest: &[&str]) -> Result<Option<Statement>, What> {
-    let statement = match first {
-        "time" => Statement::Time(number(one(rest)?)?),
-        "no" => no_time(rest)?,
-        "drain" => drain(rest)?,
-        "run" => run(rest)?,
-        "ended" => Statement::Ended(end(rest)?),
-        "goes" => goes(rest)?,
-        "word" | "doubleword" | "bytes" => memory(alloc, first, rest)?,
-        "unreadable" => Statement::Unreadable(number(one(rest)?)?),
-        "labels" => Statement::Labels(number(one(rest)?)?),
-        "room" => room(alloc, rest)?,
-        "wrote" => wrote(alloc, rest)?,
-        _ => return Ok(None),
-    };
-    Ok(Some(statement))
+/// A time, an address that can't be read, or how many labels the run has had.
+fn numbered(kind: &str, words: &[&str]) -> Result<Statement, What> {
+    let number = number(one(words)?)?;
+    match kind {
+        "time" => Ok(Statement::Time(number)),
+        "unreadable" => Ok(Statement::Unreadable(number)),
+        _ => Ok(Statement::Labels(number)),
+    }
+}
+
+/// The end to which the guest has come.
+fn ended(words: &[&str]) -> Result<Statement, What> {
+    Ok(Statement::Ended(end(words)?))
+}
+
+/// A slot, and what its thread does, or what holds of it.
+fn of_thread(slot: &str, words: &[&str]) -> Result<Statement, What> {
+    Ok(Statement::Thread(number_8(slot)?, deed(words)?))
 }
 
 /// A statement: of the machine, or of the thread whose slot stands first.
@@ -218,8 +219,16 @@ pub fn statement(alloc: Global, words: &[&str]) -> Result<Statement, What> {
     let Some((first, rest)) = words.split_first() else {
         return Err(What::NotAStatement);
     };
-    match of_machine(alloc, first, rest)? {
-        Some(statement) => Ok(statement),
-        None => Ok(Statement::Thread(number_8(first)?, deed(rest)?)),
+    match *first {
+        "time" | "unreadable" | "labels" => numbered(first, rest),
+        "no" => no_time(rest),
+        "drain" => drain(rest),
+        "run" => run(rest),
+        "ended" => ended(rest),
+        "goes" => goes(rest),
+        "word" | "doubleword" | "bytes" => memory(alloc, first, rest),
+        "room" => room(alloc, rest),
+        "wrote" => wrote(alloc, rest),
+        _ => of_thread(first, rest),
     }
 }

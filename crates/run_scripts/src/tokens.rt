@@ -11,22 +11,22 @@ pub fn number(word: &str) -> Result<u64, What> {
         Some(digits) => u64::from_str_radix(digits, 16),
         None => u64::from_str_radix(word, 10),
     };
-    read.map_err(|_| What::NotANumber)
+    Ok(read?)
 }
 
 /// A number of 32 bits.
 pub fn number_32(word: &str) -> Result<u32, What> {
-    u32::try_from(number(word)?).map_err(|_| What::NotANumber)
+    Ok(u32::try_from(number(word)?)?)
 }
 
 /// A number of 8 bits.
 pub fn number_8(word: &str) -> Result<u8, What> {
-    u8::try_from(number(word)?).map_err(|_| What::NotANumber)
+    Ok(u8::try_from(number(word)?)?)
 }
 
 /// A number with a sign, in decimal.
 pub fn signed(word: &str) -> Result<i64, What> {
-    i64::from_str_radix(word, 10).map_err(|_| What::NotANumber)
+    Ok(i64::from_str_radix(word, 10)?)
 }
 
 /// Bytes, as two digits each.
