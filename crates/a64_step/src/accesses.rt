@@ -1,6 +1,6 @@
 //! What an instruction asks of memory.
 ghost use Rattle.std.specs.Prelude.{◌≡◌, ◌<◌, ◌^◌, false, pos};
-ghost use Rattle.a64_model.specs.ExecLoadsStores.{misaligned, with_base, with_aligned_base, transferred, need_unsigned, need_indexed, need_register, literal_access, literal_address, need_literal, pair_access, need_pair, need_load, need_store, need_compare_swap, swap_op, need_atomic};
+ghost use Rattle.a64_model.specs.ExecLoadsStores.{with_aligned_base, transferred, need_unsigned, need_indexed, need_register, literal_access, literal_address, need_literal, pair_access, need_pair, need_load, need_store, need_compare_swap, swap_op, need_atomic};
 ghost use Rattle.a64_model.specs.Exec.{needed};
 ghost use Rattle.a64_model.specs.VectorRows.{is_vector};
 ghost use Rattle.a64_model.specs.Widths.{HasWidths};
@@ -10,6 +10,7 @@ use crate::transfers::{
     indexed_address, literal_address, moved_base, moved_pair_base, register_address,
     unsigned_address,
 };
+use crate::traps::{misaligned, with_base};
 use a64_model::access::{Access, Next, SwapOp};
 use a64_model::instr::{
     Atomic, CompareSwap, Instr, LoadLiteral, LoadStoreIndexed, LoadStorePair, LoadStoreRegister,
@@ -17,27 +18,6 @@ use a64_model::instr::{
 };
 use a64_model::operands::{AtomicOp, LiteralKind, Reg, Size, Transfer};
 use a64_model::regs::Regs;
-
-/// The trap of an access that alignment refuses: SIGBUS, 7, with code 1.
-fn misaligned(address: u64) -> Next
-    ensures { result ≡ misaligned address }
-{
-    Next::Trap {
-        signal: 7,
-        code: 1,
-        address,
-    }
-}
-
-/// An access by a base, which as the stack pointer has to be a multiple of 16.
-fn with_base(regs: &Regs, rn: Reg, access: Access) -> Result<Access, Next>
-    ensures { result ≡ with_base regs.now rn access }
-{
-    if rn.number == 31 && regs.sp % 16 != 0 {
-        return Err(misaligned(regs.sp));
-    }
-    Ok(access)
-}
 
 /// An access at a base that has to be a multiple of its size.
 fn with_aligned_base(regs: &Regs, rn: Reg, size: Size, access: Access) -> Result<Access, Next>

@@ -1,15 +1,16 @@
 //! What an instruction does once memory has answered.
 ghost use Rattle.std.specs.Prelude.{◌≡◌, ◌<◌, ◌^◌, false};
 ghost use Rattle.a64_model.specs.ExecLoadsStores.{with_loaded, load_store_unsigned, load_store_indexed, load_store_register, load_literal, with_pair, load_store_pair, with_number, status, store_exclusive};
-ghost use Rattle.a64_model.specs.Exec.{needed, after, faulted, next, IsAnswer};
+ghost use Rattle.a64_model.specs.Exec.{needed, after, next, IsAnswer};
 ghost use Rattle.a64_model.specs.Registers.{advanced};
 ghost use Rattle.a64_model.specs.VectorRows.{is_vector};
 ghost use Rattle.a64_model.specs.Widths.{HasWidths};
 
 use crate::memory::{first_loaded, literal_loaded, loaded, number_of, second_loaded};
 use crate::transfers::{moved_base, moved_pair_base, write_back};
+use crate::traps::faulted;
 use crate::{branches, immediates, registers};
-use a64_model::access::{Answer, Fault, Next};
+use a64_model::access::{Answer, Next};
 use a64_model::instr::{Instr, LoadLiteral, LoadStoreIndexed, LoadStorePair, StoreExclusive};
 use a64_model::operands::{Reg, Size, Transfer};
 use a64_model::regs::Regs;
@@ -90,17 +91,6 @@ fn set_number(regs: &mut Regs, size: Size, r: Reg, answer: Answer)
         regs.set_x_zr(r, number_of(size, &bytes));
     }
     regs.advance();
-}
-
-/// The trap of an access that faulted: SIGSEGV, 11, whose code is judged later.
-fn faulted(fault: Fault) -> Next
-    ensures { result ≡ faulted fault }
-{
-    Next::Trap {
-        signal: 11,
-        code: 0,
-        address: fault.address,
-    }
 }
 
 /// Ends an instruction whose access had this answer: writes the registers, and tells what comes next. SVC is a call, at

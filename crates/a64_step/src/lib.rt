@@ -11,6 +11,7 @@ mod immediates;
 mod memory;
 mod registers;
 mod transfers;
+pub mod traps;
 
 pub use accesses::need;
 pub use answers::finish;

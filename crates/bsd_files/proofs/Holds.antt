@@ -1,10 +1,10 @@
 -- An open file has no more holds than stand.
-use Rattle.std.specs.Prelude.{◌≡◌, refl, ℕ, ◌+◌, ◌≤◌, zero, suc, List, [], ◌∷◌, Option, Some, None, sum_by}
+use Rattle.std.specs.Prelude.{◌≡◌, refl, ℕ, ◌+◌, ◌≤◌, zero, suc, List, [], ◌∷◌, Option, sum_by}
 use Rattle.std.proofs.Common.{arith}
 use Rattle.std.proofs.lemmas.List.Sums.{sum_by-cons}
 use Rattle.lx_machine.specs.Lists.{at_place}
 use Rattle.lx_machine.specs.declared.files.OpenFile.{OpenFile}
-use Rattle.bsd_files.specs.Calls.{holds_of}
+use Rattle.open_files.specs.Named.{holds_of}
 
 pub hold_within : (fs : List (Option OpenFile)) (i : ℕ) → holds_of (at_place fs i) ≤ sum_by holds_of fs
 hold_within [] i = omega arith

@@ -1,6 +1,5 @@
 pub mod Activity
-pub mod Free
-pub mod Fronts
 pub mod Holds
+pub mod Kept
 pub mod Looking
 pub mod Reporting

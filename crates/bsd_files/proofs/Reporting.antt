@@ -12,7 +12,8 @@ use Rattle.kqueue_core.specs.declared.knotes.Event.{Event}
 use Rattle.kqueue_core.specs.declared.knotes.Filter.{Filter}
 use Rattle.kqueue_core.specs.declared.knotes.Watch.{Watch}
 use Rattle.lx_machine.specs.declared.files.Files.{Files}
-use Rattle.bsd_files.specs.Queues.{event_bytes, readiness, report_bytes}
+use Rattle.bsd_files.specs.Queues.{event_bytes, report_bytes}
+use Rattle.open_files.specs.Plain.{readiness}
 
 fewer_by : {X : Type 0} (b : Bool) (x : X) (xs fs : List X) → length fs ≤ length xs → length (if b then (x ∷ fs) else fs) ≤ length (x ∷ xs)
 fewer_by true x xs fs h = omega (arith, h)

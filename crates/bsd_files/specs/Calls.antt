@@ -1,67 +1,38 @@
 -- What the calls on descriptors and open files leave. A new open file, pipe, counter or queue has the least number that no living
 -- one of its kind has. Source: open(2), dup(2), fcntl(2), pipe(2), eventfd(2), kqueue(2), close(2).
-use Rattle.std.specs.Prelude.{ℕ, Bool, false, ◌&&◌, nat_le, nat_lt, List, [], length, sum_by, Option, Some, None, Ok, Err, Result, if◌then◌else◌}
+use Rattle.std.specs.Prelude.{ℕ, Bool, false, ◌&&◌, nat_le, nat_lt, [], length, Option, Some, None, Ok, Err, Result, if◌then◌else◌}
 use Rattle.kqueue_core.specs.Queues.{Queue}
 use Rattle.kqueue_core.specs.Reports.{pick_of}
 use Rattle.kqueue_core.specs.declared.knotes.Ident.{Ident}
-use Rattle.lx_machine.specs.Descriptors.{lowest_from, second_free}
 use Rattle.lx_machine.specs.Files.{closed as closed_files, descriptor, given_back, numbered, with_descriptor, with_file, with_hold}
 use Rattle.lx_machine.specs.Interests.{drained_side, side_holds}
-use Rattle.lx_machine.specs.Lists.{at_place, bind, first_free, with_place}
+use Rattle.lx_machine.specs.Lists.{at_place, with_place}
 use Rattle.lx_machine.specs.declared.files.Descriptor.{Descriptor}
 use Rattle.lx_machine.specs.declared.files.Files.{Files}
 use Rattle.lx_machine.specs.declared.files.OpenFile.{OpenFile}
 use Rattle.lx_machine.specs.declared.label.LxSide.{LxSide}
 use Rattle.lx_machine.specs.declared.files.FileKind.TheVariants as kind
 use Rattle.bsd_files.specs.Ops.{close_ops, drain_ops, each_queue, give_ops}
-use Rattle.bsd_files.specs.Queues.{readiness}
+use Rattle.open_files.specs.Plain.{readiness}
 use Rattle.bsd_files.specs.State.{FilesState, is_awaited, queue_at}
-use Rattle.bsd_files.specs.declared.kinds.Closed.{Closed}
-use Rattle.bsd_files.specs.declared.kinds.Closed.TheVariants as closed
+use Rattle.bsd_files.specs.declared.closed.Closed.{Closed}
+use Rattle.bsd_files.specs.declared.closed.Closed.TheVariants as closed
 use Rattle.bsd_abi.specs.declared.errno.BsdErrno.{BsdErrno}
 use Rattle.bsd_abi.specs.declared.errno.BsdErrno.TheVariants as errno
-use Rattle.bsd_files.specs.declared.making.FileNumbers.{FileNumbers}
-use Rattle.bsd_files.specs.declared.making.PipeNumbers.{PipeNumbers}
+use Rattle.open_files.specs.declared.making.FileNumbers.{FileNumbers}
 
 -- another plain part
 abbrev pub with_plain : FilesState → Files → FilesState
 with_plain S F = record S { plain = F }
 
--- ---- pipes, queues and counters, each with its numbers
-
--- none where no pipe or fewer than two open files are free
-abbrev pub pipe_numbers : Files → Option PipeNumbers
-pipe_numbers F =
-    bind (first_free F.files) (λ r. bind (first_free F.pipes) (λ p. bind (second_free F.files r) (λ w. Some (record { pipe = p; read_file = r; write_file = w }))))
-
-abbrev pub with_pipe_at : Files → PipeNumbers → Files
-with_pipe_at F at =
-    with_file (with_file (record F { pipes = with_place F.pipes at.pipe [] }) at.read_file (kind.PipeRead at.pipe) false) at.write_file (kind.PipeWrite at.pipe) false
-
--- none where no open file, or none of these, is free
-abbrev pub numbers_in : {X : Type 0} → Files → List (Option X) → Option FileNumbers
-numbers_in F places = bind (first_free F.files) (λ file. bind (first_free places) (λ n. Some (record { number = n; file = file })))
-
+-- a new queue
 abbrev pub with_queue_at : FilesState → FileNumbers → FilesState
 with_queue_at S at = record {
   plain = with_file S.plain at.file (kind.Epoll at.number) false;
   queues = with_place S.queues at.number (record { watches = []; flux = None });
 }
 
-abbrev pub with_counter_at : Files → FileNumbers → ℕ → Bool → Files
-with_counter_at F at value semaphore =
-    with_file (record F { counters = with_place F.counters at.number (record { value = value; semaphore = semaphore }) }) at.file (kind.Counter at.number) false
-
 -- ---- open files
-
--- how many holds an open file has
-abbrev pub holds_of : Option OpenFile → ℕ
-holds_of None = 0
-holds_of (Some f) = f.holds
-
--- how many holds stand
-abbrev pub holds_in : Files → ℕ
-holds_in F = sum_by holds_of F.files
 
 -- one more hold of an open file
 abbrev pub held_as : Files → ℕ → Option OpenFile → Files

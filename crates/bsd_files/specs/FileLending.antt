@@ -4,7 +4,8 @@ use Rattle.std.specs.Borrow.{LendsIf, MutBor, Fml}
 use Rattle.kqueue_core.specs.Queues.{Queue}
 use Rattle.kqueue_core.specs.contracts.queue.Kqueue as kqueue
 use Rattle.lx_machine.specs.Lists.{with_place}
-use Rattle.bsd_files.specs.State.{FilesState, queue_number}
+use Rattle.bsd_files.specs.State.{FilesState}
+use Rattle.open_files.specs.Plain.{queue_number}
 use Rattle.bsd_files.specs.contracts.files.Files as files
 
 -- the files with this queue at a number

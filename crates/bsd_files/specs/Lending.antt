@@ -1,15 +1,10 @@
 -- What is lent, and how what is written to it comes back.
-use Rattle.std.specs.Prelude.{ℕ, List, Option, Some}
-use Rattle.std.specs.Borrow.{Lends, LendsIf, MutBor, Fml}
+use Rattle.std.specs.Prelude.{ℕ, List, Option}
+use Rattle.std.specs.Borrow.{LendsIf, MutBor, Fml}
 use Rattle.kqueue_core.specs.Queues.{Queue}
 use Rattle.kqueue_core.specs.contracts.queue.Kqueue as kqueue
 use Rattle.lx_machine.specs.Lists.{with_place}
-use Rattle.bsd_files.specs.contracts.queues.QueuePlace as place
 use Rattle.bsd_files.specs.contracts.queues.Queues as queues
-
--- the place ends with the last value behind r as its queue
-abbrev pub LendsOpen : MutBor (Option Queue) → MutBor Queue → Fml
-LendsOpen s r = Lends place.the_row kqueue.the_row s r (λ q. Some q)
 
 -- the queues end with the last value behind r at this number
 abbrev pub LendsQueue : MutBor (List (Option Queue)) → ℕ → Option (MutBor Queue) → Fml

@@ -1,11 +1,8 @@
 pub mod Calls
 pub mod FileLending
-pub mod FileParts
-pub mod Kinds
 pub mod Lending
 pub mod Look
 pub mod Ops
-pub mod PlainParts
 pub mod Queues
 pub mod State
 pub mod StateParts

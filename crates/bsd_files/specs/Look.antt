@@ -1,6 +1,6 @@
 -- Look: what a transfer moves now, by what the open file is. It is the move of the Linux machine (Read.antt, Write.antt) without
 -- the call's answer and the hold that is given back. Source: read(2), write(2), pipe(7), eventfd(2).
-use Rattle.std.specs.Prelude.{ℕ, ◌+◌, ◌-◌, ◌^◌, ◌/◌, ◌==◌, Bool, true, false, ◌||◌, nat_lt, if◌then◌else◌, List, [], ◌∷◌, ◌++◌, take, drop, length, Option, Some, None, slice_set}
+use Rattle.std.specs.Prelude.{ℕ, ◌+◌, ◌-◌, ◌^◌, ◌/◌, ◌==◌, ◌||◌, nat_lt, if◌then◌else◌, List, [], ◌∷◌, ◌++◌, take, drop, length, Option, Some, None, slice_set}
 use Rattle.std.proofs.Math.Bool.{not}
 use Rattle.std.specs.Option.{option_map}
 use Rattle.bsd_abi.specs.declared.errno.BsdErrno.TheVariants as errno
@@ -22,10 +22,12 @@ use Rattle.lx_machine.specs.declared.files.FileKind.TheVariants as kind
 use Rattle.places.specs.Places.{bytes_of, number_at}
 use Rattle.bsd_files.specs.Ops.{Op, Arm, each_queue}
 use Rattle.bsd_files.specs.Queues.{after_scan, has_report, report_bytes}
-use Rattle.bsd_files.specs.State.{FilesState, plain_of}
-use Rattle.bsd_files.specs.declared.kinds.FileCall.{FileCall}
-use Rattle.bsd_files.specs.declared.kinds.FileLook.{FileLook}
-use Rattle.bsd_files.specs.declared.kinds.FileLook.TheVariants.{Moved, Wait, Refused, Broken}
+use Rattle.bsd_files.specs.State.{FilesState}
+use Rattle.open_files.specs.Kinds.{moves}
+use Rattle.open_files.specs.Plain.{plain_of}
+use Rattle.open_files.specs.declared.kinds.FileCall.{FileCall}
+use Rattle.open_files.specs.declared.kinds.FileLook.{FileLook}
+use Rattle.open_files.specs.declared.kinds.FileLook.TheVariants.{Moved, Wait, Refused, Broken}
 
 -- what a look answers, what it leaves of the files, the bytes that it brings to the front of the buffer, and what it does to the
 -- queues
@@ -128,15 +130,6 @@ plain_look F c buffer f = if c.write then write_look F c.done (bytes_left c buff
 
 -- ---- the same, by its answer
 
--- some bytes are moved, and how many
-abbrev pub moves : FileLook → Bool
-moves (Moved n) = nat_lt 0 n
-moves _ = false
-
-abbrev pub moved : FileLook → ℕ
-moved (Moved n) = n
-moved _ = 0
-
 -- a look with this answer: it is that one where bytes are moved, and else nothing changes
 abbrev pub answers : Files → FileLook → Look → Look
 answers F answer look = if moves answer then look else stays F answer
@@ -193,8 +186,3 @@ looked_at S c buffer (Some f) = looked_as S c buffer f f.kind
 -- a look of a call at its open file
 abbrev pub looked : FilesState → FileCall → List ℕ → Looked
 looked S c buffer = looked_at S c buffer (at_place S.plain.files c.file)
-
--- nothing can be moved yet
-abbrev pub is_wait : FileLook → Bool
-is_wait Wait = true
-is_wait _ = false

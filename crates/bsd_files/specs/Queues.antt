@@ -1,18 +1,11 @@
 -- Look at a queue: what a scan reports, as bytes, and what it leaves. Source: epoll_wait(2) of Linux, kqueue(2) of FreeBSD.
-use Rattle.std.specs.Prelude.{ℕ, Bool, ◌++◌, List, [], length, map, flat_map, Option, Some, None, is_some, bit_and}
-use Rattle.kqueue_core.specs.Knotes.{filter_events}
+use Rattle.std.specs.Prelude.{ℕ, Bool, ◌++◌, List, map, flat_map, is_some}
 use Rattle.kqueue_core.specs.Queues.{Queue}
 use Rattle.kqueue_core.specs.Reports.{event_of, pick_of, reports, scanned}
 use Rattle.kqueue_core.specs.declared.knotes.Event.{Event}
-use Rattle.kqueue_core.specs.declared.knotes.Filter.{Filter}
-use Rattle.lx_machine.specs.Epoll.{ready_at}
-use Rattle.lx_machine.specs.Lists.{at_place}
 use Rattle.lx_machine.specs.declared.files.Files.{Files}
+use Rattle.open_files.specs.Plain.{readiness}
 use Rattle.places.specs.Places.{bytes_of}
-
--- of the events that hold of an open file now, those that a filter tells of
-abbrev pub readiness : Files → ℕ → Filter → ℕ
-readiness F file f = bit_and (ready_at F (at_place F.files file)) (filter_events f)
 
 -- an event as a guest sees it: its bits, 4 bytes that aren't used, and the user's word
 abbrev pub event_bytes : Event → List ℕ

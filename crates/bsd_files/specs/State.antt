@@ -1,42 +1,28 @@
 -- The files of the FreeBSD kernel's model: all but the queues is the Linux machine's record, in which nothing stands for epolls,
 -- nor for what was ever put into a console room. The queues are kqueues, each at its number. This project's own.
-use Rattle.std.specs.Prelude.{ℕ, Bool, false, List, [], Option, None, Some, replicate, is_some, ◌||◌, ◌==◌}
+use Rattle.std.specs.Prelude.{ℕ, Bool, false, List, Option, None, Some, replicate, is_some, ◌||◌, ◌==◌}
 use Rattle.std.specs.List.{list_any}
 use Rattle.kqueue_core.specs.Queues.{Queue}
 use Rattle.kqueue_core.specs.declared.knotes.Flux.{Flux}
-use Rattle.lx_machine.specs.Epoll.{epoll_number}
 use Rattle.lx_machine.specs.Lists.{at_place, bind}
 use Rattle.lx_machine.specs.Start.{first_files}
 use Rattle.lx_machine.specs.declared.files.Descriptor.{Descriptor}
 use Rattle.lx_machine.specs.declared.files.Files.{Files}
+use Rattle.open_files.specs.Plain.{plain_of, queue_number}
 
 pub record FilesState : Type 0 where
   pub plain : Files
   pub queues : List (Option Queue)
 
--- the Linux machine's files without epolls, and without what was ever put into a console room
-abbrev pub plain_of : Files → Files
-plain_of F = record F { epolls = []; put_out = []; put_err = [] }
-
 -- at the start: the input and the two consoles, on the descriptors 0, 1 and 2
 abbrev pub first_state : List ℕ → FilesState
 first_state input = record { plain = plain_of (first_files input); queues = replicate 32 None }
 
--- ---- what is open
-
--- the open file that a descriptor names
-abbrev pub named_by : Files → ℕ → Option ℕ
-named_by F fd = bind (at_place F.descriptors fd) (λ d. Some d.file)
-
--- the number of the queue that an open file is
-abbrev pub queue_number : Files → ℕ → Option ℕ
-queue_number F file = bind (at_place F.files file) (λ f. epoll_number f.kind)
+-- ---- queues and fluxes
 
 -- the queue that an open file is
 abbrev pub queue_at : FilesState → ℕ → Option Queue
 queue_at S file = bind (queue_number S.plain file) (at_place S.queues)
-
--- ---- fluxes
 
 -- a flux stands in the queue
 abbrev pub has_flux : Option Queue → Bool

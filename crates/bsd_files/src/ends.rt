@@ -2,16 +2,14 @@
 ghost use Rattle.std.specs.Prelude.{◌≡◌, ◌∷◌, Some};
 ghost use Rattle.lx_machine.specs.Files.{after_end_of, closed, closed_if_unnamed, ended_if_unnamed, given_back, numbered, without_file, without_pipe};
 ghost use Rattle.lx_machine.specs.Lists.{without_place};
-ghost use Rattle.bsd_files.specs.Kinds.{kind_out};
+ghost use Rattle.open_files.specs.Kinds.{kind_out};
 ghost use Rattle.bsd_files.specs.Ops.{Leave, close_ops, each_queue, end_ops, give_ops, settle_ops, settle_ops_of};
-ghost use Rattle.bsd_files.specs.PlainParts.{plain_in};
+ghost use Rattle.open_files.specs.PlainParts.{plain_in};
 
-use crate::kinds::File;
-use crate::numbers::{place_at, set_place};
-use crate::open_files::OpenFile;
-use crate::plain::Plain;
 use crate::queues::Queues;
 use kqueue_core::Filter;
+use open_files::numbers::{place_at, set_place};
+use open_files::{File, OpenFile, Plain};
 
 // Lets the pipe go where neither of its ends lives.
 fn let_pipe_go(plain: &mut Plain, pipe: u32)

@@ -6,25 +6,26 @@ ghost use Rattle.kqueue_core.specs.Reports.{pick_of};
 ghost use Rattle.lx_machine.specs.Descriptors.{lowest_from};
 ghost use Rattle.lx_machine.specs.Files.{closed, descriptor, given_back, with_descriptor};
 ghost use Rattle.lx_machine.specs.Interests.{drained_side, side_holds};
-ghost use Rattle.lx_machine.specs.Lists.{at_place};
+ghost use Rattle.lx_machine.specs.Lists.{at_place, first_free};
 ghost use Rattle.bsd_files.specs.Calls as calls;
-ghost use Rattle.bsd_files.specs.Kinds.{kind_out, side_out};
+ghost use Rattle.open_files.specs.Kinds.{is_wait, kind_out, side_out};
 ghost use Rattle.bsd_files.specs.FileLending.{LendsFileQueue};
-ghost use Rattle.bsd_files.specs.Look.{is_wait, looked};
-ghost use Rattle.bsd_files.specs.Queues.{readiness};
-ghost use Rattle.bsd_files.specs.State.{first_state, is_awaited, is_in_flux, named_by, queue_at};
+ghost use Rattle.bsd_files.specs.Look.{looked};
+ghost use Rattle.bsd_files.specs.State.{first_state, is_awaited, is_in_flux, queue_at};
+ghost use Rattle.open_files.specs.Making as made;
+ghost use Rattle.open_files.specs.Named.{AllNamed, holds_in};
+ghost use Rattle.open_files.specs.Plain.{named_by, readiness};
 
+use crate::closed::Closed;
 use crate::ends::{close_descriptor, give_back};
-use crate::kinds::{Closed, File, FileCall, FileLook, NoMemory, Side};
 use crate::looks::{bytes_left, look_at_read, look_at_write, plain_answer};
-use crate::making;
-use crate::numbers::{count_free, next_free, place_at, set_place};
-use crate::open_files::Descriptor;
-use crate::plain::Plain;
+use crate::making::queue_numbers;
 use crate::queues::Queues;
 use crate::reports::{MOST, has_report, look_at_queue, pick};
 use bsd_abi::BsdErrno;
 use kqueue_core::{Event, Filter, Ident, Kqueue, Readiness};
+use open_files::numbers::{count_free, next_free, place_at, set_place};
+use open_files::{Descriptor, File, FileCall, FileLook, NoMemory, Plain, Side, making};
 use std::alloc::Global;
 use std::marker::Model;
 
@@ -43,11 +44,11 @@ impl Model for Files {
 
     ghost Value = { FilesState };
 
-    ghost use Rattle.bsd_files.specs.StateParts.{state_in, HasEvents};
+    ghost use Rattle.bsd_files.specs.StateParts.{state_in, IsSound};
 
     ghost view = { state_in };
 
-    ghost invariant = { HasEvents };
+    ghost invariant = { IsSound };
 }
 
 impl Files {
@@ -156,11 +157,13 @@ impl Files {
     // ---- pipes, queues and counters
 
     /// Makes a pipe, and answers the open files of its read end and its write end, which live until nothing names them any more
-    /// (pipe(2)). ENFILE exactly where 64 pipes live or fewer than two places for open files are free; then nothing changes.
+    /// (pipe(2)). ENFILE exactly where 64 pipes live or fewer than two places for open files are free; then nothing changes. Where
+    /// two descriptors are free and no open file waits for its first, it is exactly where 64 pipes live.
     pub fn make_pipe(&mut self) -> Result<(u32, u32), BsdErrno>
-        ensures { MatchOption (calls.pipe_numbers self.old.plain)
+        ensures made { MatchOption (made.pipe_numbers self.old.plain)
             ((result ≡ Err BsdErrno.ENFILE) × (self.new ≡ self.old))
-            (λ at. (result ≡ Ok (at.read_file, at.write_file)) × (self.new ≡ calls.with_plain self.old (calls.with_pipe_at self.old.plain at))) }
+            (λ at. (result ≡ Ok (at.read_file, at.write_file)) × (self.new ≡ calls.with_plain self.old (made.with_pipe_at self.old.plain at))) }
+        ensures room { AllNamed self.old.plain → 2 ≤ count_by is_none self.old.plain.descriptors → is_some (made.pipe_numbers self.old.plain) ≡ is_some (first_free self.old.plain.pipes) }
     {
         match making::pipe_numbers(&self.plain) {
             Some(at) => {
@@ -172,13 +175,14 @@ impl Files {
     }
 
     /// Makes a queue, and answers its open file (kqueue(2)). ENFILE exactly where 32 queues live or no place for an open file is
-    /// free; then nothing changes.
+    /// free; then nothing changes. Where a descriptor is free and no open file waits for its first, it is exactly where 32 queues live.
     pub fn make_queue(&mut self) -> Result<u32, BsdErrno>
-        ensures { MatchOption (calls.numbers_in self.old.plain self.old.queues)
+        ensures made { MatchOption (made.numbers_in self.old.plain self.old.queues)
             ((result ≡ Err BsdErrno.ENFILE) × (self.new ≡ self.old))
             (λ at. (result ≡ Ok at.file) × (self.new ≡ calls.with_queue_at self.old at)) }
+        ensures room { AllNamed self.old.plain → 1 ≤ count_by is_none self.old.plain.descriptors → is_some (made.numbers_in self.old.plain self.old.queues) ≡ is_some (first_free self.old.queues) }
     {
-        match making::queue_numbers(&self.plain, &self.queues) {
+        match queue_numbers(&self.plain, &self.queues) {
             Some(at) => {
                 making::add_file(&mut self.plain, at.file, File::Queue(at.number));
                 self.queues.open(at.number);
@@ -188,17 +192,19 @@ impl Files {
         }
     }
 
-    /// Whether there is a place for one more counter and its open file.
+    /// Whether there is a place for one more counter and its open file. There is one wherever a descriptor is free and no open file
+    /// waits for its first.
     pub fn has_counter_room(&self) -> bool
-        ensures { result ≡ is_some (calls.numbers_in self.now.plain self.now.plain.counters) }
+        ensures room { result ≡ is_some (made.numbers_in self.now.plain self.now.plain.counters) }
+        ensures always { AllNamed self.now.plain → 1 ≤ count_by is_none self.now.plain.descriptors → result ≡ true }
     {
         making::counter_numbers(&self.plain).is_some()
     }
 
     /// Makes a counter of this value, and answers its open file (eventfd(2)). There has to be room for it (`has_counter_room`).
     pub fn make_counter(&mut self, value: u64, semaphore: bool) -> u32
-        requires { IsSome (calls.numbers_in self.old.plain self.old.plain.counters) }
-        ensures { IfSome (calls.numbers_in self.old.plain self.old.plain.counters) (λ at. (result ≡ at.file) × (self.new ≡ calls.with_plain self.old (calls.with_counter_at self.old.plain at value semaphore))) }
+        requires { IsSome (made.numbers_in self.old.plain self.old.plain.counters) }
+        ensures { IfSome (made.numbers_in self.old.plain self.old.plain.counters) (λ at. (result ≡ at.file) × (self.new ≡ calls.with_plain self.old (made.with_counter_at self.old.plain at value semaphore))) }
     {
         match making::counter_numbers(&self.plain) {
             Some(at) => {
@@ -210,6 +216,20 @@ impl Files {
     }
 
     // ---- open files
+
+    /// Whether an open file of this number lives.
+    pub fn lives(&self, file: u32) -> bool
+        ensures { result ≡ is_some (at_place self.now.plain.files file) }
+    {
+        self.plain.file(file).is_some()
+    }
+
+    /// How many holds stand.
+    pub fn holds(&self) -> u32
+        ensures { result ≡ holds_in self.now.plain }
+    {
+        self.plain.count_holds()
+    }
 
     /// What the open file is. It has to live.
     pub fn kind(&self, file: u32) -> File
@@ -245,7 +265,7 @@ impl Files {
     /// A call holds the open file, which has to live. Fewer than 128 holds may stand.
     pub fn hold(&mut self, file: u32)
         requires lives { IsSome (at_place self.old.plain.files file) }
-        requires few { calls.holds_in self.old.plain < 128 }
+        requires few { holds_in self.old.plain < 128 }
         ensures { self.new ≡ calls.with_plain self.old (calls.held self.old.plain file) }
     {
         if let Some(f) = self.plain.file(file) {

@@ -13,23 +13,21 @@ ghost use Rattle.lx_machine.specs.declared.files.FileKind.TheVariants as kind;
 ghost use Rattle.lx_machine.specs.declared.files.Files.{Files as LxFiles};
 ghost use Rattle.lx_machine.specs.declared.files.OpenFile.{OpenFile as LxFile};
 ghost use Rattle.bsd_abi.specs.declared.errno.BsdErrno.TheVariants as errno;
-ghost use Rattle.bsd_files.specs.Kinds.{side_out};
-ghost use Rattle.bsd_files.specs.declared.kinds.FileLook.TheVariants.{Moved};
-ghost use Rattle.bsd_files.specs.Look.{answers, as_write, bytes_left, counter_read, counter_write, input_look, moved, moves, of_it, plain_look, put, put_out, read_look, stays, taken, waits, write_look, wrote, reads};
+ghost use Rattle.open_files.specs.Kinds.{moved, moves, side_out};
+ghost use Rattle.open_files.specs.declared.kinds.FileLook.TheVariants.{Moved};
+ghost use Rattle.bsd_files.specs.Look.{answers, as_write, bytes_left, counter_read, counter_write, input_look, of_it, plain_look, put, put_out, read_look, stays, taken, waits, write_look, wrote, reads};
 ghost use Rattle.bsd_files.specs.Ops.{Arm, each_queue};
-ghost use Rattle.bsd_files.specs.PlainParts.{plain_in};
-ghost use Rattle.bsd_files.specs.State.{plain_of};
+ghost use Rattle.open_files.specs.PlainParts.{plain_in};
+ghost use Rattle.open_files.specs.Plain.{plain_of};
 
-use crate::kinds::{File, FileCall, FileLook, Side};
-use crate::numbers::{place_at, set_place};
-use crate::open_files::{Count, OpenFile};
-use crate::plain::Plain;
 use crate::queues::Queues;
-use crate::rooms::ROOM;
 use bsd_abi::BsdErrno;
 use byteorder::{ByteOrder, LittleEndian};
 use kqueue_core::Filter;
 use lx_machine::files::Input;
+use open_files::numbers::{place_at, set_place};
+use open_files::rooms::ROOM;
+use open_files::{Count, File, FileCall, FileLook, OpenFile, Plain, Side};
 
 /// The most bytes that a write moves all or none of (pipe(7), PIPE_BUF).
 const PIPE_BUF: usize = 4096;

@@ -5,129 +5,50 @@ ghost use Rattle.std.specs.List.{list_any};
 ghost use Rattle.std.specs.Borrow.{sem};
 ghost use Rattle.lx_machine.specs.Interests.{is_open_of};
 ghost use Rattle.lx_machine.specs.Lists.{at_place, first_free, with_place, without_place};
-ghost use Rattle.bsd_files.specs.Kinds.{kind_out};
-ghost use Rattle.bsd_files.specs.Lending.{LendsOpen, LendsQueue};
+ghost use Rattle.open_files.specs.Kinds.{kind_out};
+ghost use Rattle.bsd_files.specs.Lending.{LendsQueue};
 ghost use Rattle.bsd_files.specs.Ops.{Arm, Leave, activated_for, activated_in_queue, in_queues, left_by};
 ghost use Rattle.bsd_files.specs.State.{has_flux, has_flux_on};
 
-use crate::kinds::{File, NoMemory};
-use crate::numbers::place_at;
-use crate::open_files::{OpenFile, is_open_of};
 use kqueue_core::{Filter, Kqueue};
+use open_files::numbers::place_at;
+use open_files::open_file::is_open_of;
+use open_files::reused::{Place, close_place, first_free_place};
+use open_files::{File, NoMemory, OpenFile};
 use std::alloc::Global;
 use std::marker::Model;
 
 /// How many queues there can be.
 pub(crate) const QUEUES: usize = 32;
 
-/// The place of a queue, which contracts see as the queue, if there is one. It keeps the room while there is none.
-#[derive(Drop)]
-pub(crate) struct QueuePlace {
-    queue: Kqueue,
-    is_open: bool,
+/// The place of a queue.
+type QueuePlace = Place<Kqueue>;
+
+// Makes the knotes of an open file and a filter active, in the queue of a place.
+fn activate_in(place: &mut QueuePlace, file: u32, filter: Filter)
+    ensures { place.new ≡ option_map (activated_in_queue file filter) place.old }
+{
+    if !place.is_free() {
+        place.get_mut().activate(file, filter);
+    }
 }
 
-impl Model for QueuePlace {
-    ghost use Rattle.std.specs.Prelude.{Option, Some, None, if◌then◌else◌};
-    ghost use Rattle.kqueue_core.specs.Queues.{Queue};
-
-    ghost Value = { Option Queue };
-
-    ghost view = { λ p. if p.is_open then Some p.queue else None };
+// Takes the knotes of an open file out of the queue of a place.
+fn drop_file_in(place: &mut QueuePlace, file: u32)
+    ensures { place.new ≡ option_map (left_by file) place.old }
+{
+    if !place.is_free() {
+        place.get_mut().drop_file(file);
+    }
 }
 
-impl QueuePlace {
-    // No queue.
-    fn make(alloc: Global) -> Result<QueuePlace, NoMemory>
-        ensures { IfOk result (λ place. place ≡ None) }
-    {
-        let Ok(queue) = Kqueue::make(alloc) else {
-            return Err(NoMemory);
-        };
-        Ok(QueuePlace {
-            queue,
-            is_open: false,
-        })
-    }
-
-    // A new queue.
-    fn open(&mut self)
-        ensures { self.new ≡ Some record { watches = []; flux = None } }
-    {
-        self.queue.clear();
-        self.is_open = true;
-    }
-
-    // The queue is gone.
-    fn close(&mut self)
-        ensures { self.new ≡ None }
-    {
-        self.is_open = false;
-    }
-
-    // Whether there is none.
-    fn is_free(&self) -> bool
-        ensures { result ≡ is_none self.now }
-    {
-        !self.is_open
-    }
-
-    // Makes the knotes of an open file and a filter active.
-    fn activate(&mut self, file: u32, filter: Filter)
-        ensures { self.new ≡ option_map (activated_in_queue file filter) self.old }
-    {
-        if self.is_open {
-            self.queue.activate(file, filter);
-        }
-    }
-
-    // Takes out the knotes of an open file.
-    fn drop_file(&mut self, file: u32)
-        ensures { self.new ≡ option_map (left_by file) self.old }
-    {
-        if self.is_open {
-            self.queue.drop_file(file);
-        }
-    }
-
-    // Whether a flux stands.
-    fn in_flux(&self) -> bool
-        ensures { result ≡ has_flux self.now }
-    {
-        self.is_open && self.queue.in_flux()
-    }
-
-    // Whether a flux on this descriptor stands.
-    fn in_flux_on(&self, fd: u32) -> bool
-        ensures { result ≡ has_flux_on fd self.now }
-    {
-        if !self.is_open {
-            return false;
-        }
-        match self.queue.flux_of() {
-            Some(descriptor) => descriptor == fd,
-            None => false,
-        }
-    }
-
-    // The queue.
-    fn queue(&self) -> Option<&Kqueue>
-        ensures { MatchOption result (self.now ≡ None) (λ q. self.now ≡ Some q.now) }
-    {
-        if self.is_open {
-            Some(&self.queue)
-        } else {
-            None
-        }
-    }
-
-    // Lends the queue, which has to be there.
-    fn queue_mut(&mut self) -> &mut Kqueue
-        requires { IsSome self.old }
-        ensures* writes_back { sem 𝓛 (LendsOpen self.entry result) }
-        ensures value { self.old ≡ Some result.now }
-    {
-        &mut self.queue
+// Whether a flux on this descriptor stands in the queue of a place.
+fn in_flux_on(place: &QueuePlace, fd: u32) -> bool
+    ensures { result ≡ has_flux_on fd place.now }
+{
+    match place.get() {
+        Some(queue) => queue.flux_of() == Some(fd),
+        None => false,
     }
 }
 
@@ -155,7 +76,7 @@ fn activate_each(places: &mut [QueuePlace], file: u32, filter: Filter)
     ensures { places.new ≡ map (option_map (activated_in_queue file filter)) places.old }
 {
     for place in places.iter_mut() {
-        place.activate(file, filter);
+        activate_in(place, file, filter);
     }
 }
 
@@ -164,7 +85,7 @@ fn drop_file_each(places: &mut [QueuePlace], file: u32)
     ensures { places.new ≡ map (option_map (left_by file)) places.old }
 {
     for place in places.iter_mut() {
-        place.drop_file(file);
+        drop_file_in(place, file);
     }
 }
 
@@ -194,14 +115,6 @@ fn activate_for(places: &mut [QueuePlace], kind: File, filter: Filter, files: &[
     }
 }
 
-// Where the first free place stands.
-fn free_at(places: &[QueuePlace]) -> Option<usize>
-    ensures place { result ≡ position is_none places.now }
-    ensures fits { IfSome result (λ i. i < length places.now) }
-{
-    places.iter().position(|place| place.is_free())
-}
-
 // Places without queues.
 fn free_places(alloc: Global) -> Result<Vec<QueuePlace>, NoMemory>
     ensures { IfOk result (λ places. places.items ≡ replicate 32 None) }
@@ -210,7 +123,10 @@ fn free_places(alloc: Global) -> Result<Vec<QueuePlace>, NoMemory>
         return Err(NoMemory);
     };
     for _ in 0..QUEUES {
-        places.push_reserved(QueuePlace::make(alloc)?);
+        let Ok(queue) = Kqueue::make(alloc) else {
+            return Err(NoMemory);
+        };
+        places.push_reserved(Place::free(queue));
     }
     Ok(places)
 }
@@ -234,7 +150,7 @@ impl Queues {
     {
         self.is_used = true;
         let place = &mut self.places[number as usize];
-        place.open();
+        place.take();
     }
 
     // The queue of a number is gone.
@@ -242,21 +158,15 @@ impl Queues {
         ensures { self.new ≡ without_place self.old number }
     {
         self.is_used = true;
-        if let Some(place) = self.places.get_mut(number as usize) {
-            place.close();
-        }
+        close_place(&mut self.places, number);
     }
 
     // The lowest number without a queue.
-    #[tactic(auto, using(crate::proofs::Free::free_position))]
     pub(crate) fn first_free(&self) -> Option<u32>
         ensures number { result ≡ first_free self.now }
         ensures fits { IfSome result (λ n. n < length self.now) }
     {
-        match free_at(&self.places) {
-            Some(at) => Some(at as u32),
-            None => None,
-        }
+        first_free_place(&self.places)
     }
 
     // Takes out the knotes of an open file.
@@ -282,7 +192,7 @@ impl Queues {
     pub(crate) fn in_flux_on(&self, fd: u32) -> bool
         ensures { result ≡ list_any (has_flux_on fd) self.now }
     {
-        self.places.iter().any(|place| place.in_flux_on(fd))
+        self.places.iter().any(|place| in_flux_on(place, fd))
     }
 
     // The queue of a number.
@@ -290,7 +200,7 @@ impl Queues {
         ensures { MatchOption result (at_place self.now number ≡ None) (λ q. at_place self.now number ≡ Some q.now) }
     {
         match self.places.get(number as usize) {
-            Some(place) => place.queue(),
+            Some(place) => place.get(),
             None => None,
         }
     }
@@ -313,7 +223,7 @@ impl Queues {
         if self.is_open(number) {
             self.is_used = true;
             let place = &mut self.places[number as usize];
-            Some(place.queue_mut())
+            Some(place.get_mut())
         } else {
             None
         }

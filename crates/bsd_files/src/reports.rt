@@ -1,14 +1,14 @@
 //! What a queue reports, as bytes of a buffer (epoll_wait(2), kqueue(2)).
 ghost use Rattle.std.specs.Prelude.{◌≡◌, ◌≤◌, ◌*◌, ◌/◌, ◌++◌, if◌then◌else◌, length, drop, flat_map};
 ghost use Rattle.kqueue_core.specs.Reports.{pick_of};
-ghost use Rattle.bsd_files.specs.PlainParts.{plain_in};
-ghost use Rattle.bsd_files.specs.declared.kinds.FileLook.TheVariants.{Moved, Wait};
-ghost use Rattle.bsd_files.specs.Queues.{after_scan, event_bytes, has_report, readiness, report_bytes};
+ghost use Rattle.open_files.specs.PlainParts.{plain_in};
+ghost use Rattle.open_files.specs.declared.kinds.FileLook.TheVariants.{Moved, Wait};
+ghost use Rattle.bsd_files.specs.Queues.{after_scan, event_bytes, has_report, report_bytes};
+ghost use Rattle.open_files.specs.Plain.{readiness};
 
-use crate::kinds::FileLook;
-use crate::plain::Plain;
 use byteorder::{ByteOrder, LittleEndian};
 use kqueue_core::{Event, Ident, Kqueue};
+use open_files::{FileLook, Plain};
 
 /// How many bytes an event has (epoll_wait(2), struct epoll_event).
 pub(crate) const EVENT: usize = 16;

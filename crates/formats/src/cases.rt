@@ -1,5 +1,7 @@
 //! A line of a file of cases.
 
+ghost use Rattle.std.specs.Prelude.{◌<◌, length, IfSome};
+
 use crate::images::write_image;
 use crate::numbers::write_numbers;
 use crate::runs::{write_run, write_source};
@@ -75,6 +77,18 @@ fn fails_of(load: &str, out: &str, err: &str) -> Option<[u64; 3]> {
     Some([number(load)?, number(out)?, number(err)?])
 }
 
+// The place of the colon among words.
+fn colon_in(words: &[&str]) -> Option<usize>
+    ensures { IfSome result (λ at. at < length words.now) }
+{
+    for at in 0..words.len() {
+        if words[at] == ":" {
+            return Some(at);
+        }
+    }
+    None
+}
+
 // Calls the top call with the file edited.
 fn write_call(
     text: &mut String,
@@ -84,7 +98,7 @@ fn write_call(
     name: &str,
     rest: &[&str],
 ) -> Result<bool, Trouble> {
-    let Some(colon) = rest.iter().position(|word| *word == ":") else {
+    let Some(colon) = colon_in(rest) else {
         return Ok(false);
     };
     let Some(file) = store.edited(name, &rest[..colon])? else {

@@ -101,7 +101,7 @@ static ARGUMENTS: [(&str, u64); 58] = [
 ];
 
 // Numbers of 32 bits in memory, by name.
-static WORDS: [(&str, u32); 13] = [
+static WORDS: [(&str, u32); 14] = [
     ("EPOLLIN", epoll::EPOLLIN),
     ("EPOLLPRI", epoll::EPOLLPRI),
     ("EPOLLOUT", epoll::EPOLLOUT),
@@ -115,6 +115,7 @@ static WORDS: [(&str, u32); 13] = [
     ("FUTEX_WAITERS", futexes::FUTEX_WAITERS),
     ("FUTEX_OWNER_DIED", futexes::FUTEX_OWNER_DIED),
     ("FUTEX_TID_MASK", futexes::FUTEX_TID_MASK),
+    ("FUTEX_32", futexes::FUTEX_32),
 ];
 
 // Signed numbers in memory, by name.
@@ -212,35 +213,50 @@ fn write_choice(
     }
 }
 
-// Each argument that a number is a choice of, and the choice's number again.
+// The number again of the choice that a number is, of each argument.
+fn descriptor_operation(number: u64) -> Option<u64> {
+    Some(DescriptorOperation::new(number)?.number())
+}
+
+fn epoll_operation(number: u64) -> Option<u64> {
+    Some(EpollOperation::new(number)?.number())
+}
+
+fn futex_operation(number: u64) -> Option<u64> {
+    Some(FutexOperation::new(number)?.number())
+}
+
+fn word_operation(number: u64) -> Option<u64> {
+    Some(WordOperation::new(number)?.number())
+}
+
+fn comparison(number: u64) -> Option<u64> {
+    Some(Comparison::new(number)?.number())
+}
+
+fn advice(number: u64) -> Option<u64> {
+    Some(Advice::new(number)?.number())
+}
+
+fn clock_id(number: u64) -> Option<u64> {
+    Some(ClockId::new(number)?.number())
+}
+
+fn mask_change(number: u64) -> Option<u64> {
+    Some(MaskChange::new(number)?.number())
+}
+
+// Each argument that a number may be a choice of, and the choice's number again.
 fn choices_of(number: u64) -> [(&'static str, Option<u64>); 8] {
     [
-        (
-            "fcntl",
-            DescriptorOperation::new(number).map(|choice| choice.number()),
-        ),
-        (
-            "epoll_ctl",
-            EpollOperation::new(number).map(|choice| choice.number()),
-        ),
-        (
-            "futex",
-            FutexOperation::new(number).map(|choice| choice.number()),
-        ),
-        (
-            "word operation",
-            WordOperation::new(number).map(|choice| choice.number()),
-        ),
-        (
-            "comparison",
-            Comparison::new(number).map(|choice| choice.number()),
-        ),
-        ("madvise", Advice::new(number).map(|choice| choice.number())),
-        ("clock", ClockId::new(number).map(|choice| choice.number())),
-        (
-            "rt_sigprocmask",
-            MaskChange::new(number).map(|choice| choice.number()),
-        ),
+        ("fcntl", descriptor_operation(number)),
+        ("epoll_ctl", epoll_operation(number)),
+        ("futex", futex_operation(number)),
+        ("word operation", word_operation(number)),
+        ("comparison", comparison(number)),
+        ("madvise", advice(number)),
+        ("clock", clock_id(number)),
+        ("rt_sigprocmask", mask_change(number)),
     ]
 }
 

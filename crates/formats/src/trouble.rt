@@ -4,7 +4,7 @@ use outside::{Failed, LoadFault};
 use std::alloc::AllocError;
 
 /// What went wrong.
-#[derive(Clone, Copy)]
+#[derive(Drop)]
 pub enum Trouble {
     /// Memory ran out.
     NoMemory,

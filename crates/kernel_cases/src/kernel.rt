@@ -1,19 +1,20 @@
 //! The objects of a case.
 
-use crate::carries::play_carry;
-use crate::chains::ChainSubject;
-use crate::counters::CounterSubject;
-use crate::kqueues::Watched;
-use crate::pipes::PipeSubject;
-use crate::threads::ThreadSubject;
 use case_words::answers::{Answer, Refusal};
 use case_words::arguments::Arguments;
 use case_words::subject::{Objects, play_at};
-use process_subjects::areas::AreasSubject;
-use process_subjects::memories::MemorySubject;
+use file_subjects::counters::CounterSubject;
+use file_subjects::files::FilesSubject;
+use file_subjects::kqueues::Watched;
+use file_subjects::pipes::PipeSubject;
+use memory_subjects::areas::AreasSubject;
+use memory_subjects::memories::MemorySubject;
+use memory_subjects::shards::Numbered;
 use process_subjects::processes::ProcessSubject;
-use process_subjects::shards::Numbered;
 use std::alloc::Global;
+use thread_subjects::carries::play_carry;
+use thread_subjects::chains::ChainSubject;
+use thread_subjects::threads::ThreadSubject;
 
 /// The objects that a case has made so far.
 #[derive(Drop)]
@@ -23,6 +24,7 @@ pub struct Kernel {
     pipe: Option<PipeSubject>,
     counter: Option<CounterSubject>,
     kqueue: Option<Watched>,
+    files: Option<FilesSubject>,
     process: Option<ProcessSubject>,
     thread: Option<ThreadSubject>,
     areas: Option<AreasSubject>,
@@ -65,6 +67,7 @@ impl Objects for Kernel {
             pipe: None,
             counter: None,
             kqueue: None,
+            files: None,
             process: None,
             thread: None,
             areas: None,
@@ -87,6 +90,7 @@ impl Objects for Kernel {
             "pipe" => play_at(&mut self.pipe, alloc, name, of),
             "counter" => play_at(&mut self.counter, alloc, name, of),
             "kqueue" => play_at(&mut self.kqueue, alloc, name, of),
+            "files" => play_at(&mut self.files, alloc, name, of),
             "process" => play_at(&mut self.process, alloc, name, of),
             "thread" => play_at(&mut self.thread, alloc, name, of),
             "areas" => play_at(&mut self.areas, alloc, name, of),

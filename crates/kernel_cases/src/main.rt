@@ -4,14 +4,7 @@
 //! hold, and what it found. The status is 0 where all hold. `docs/KERNEL-CASES.md` describes the language.
 #![tactic(auto)]
 
-mod calls;
-mod carries;
-mod chains;
-mod counters;
 mod kernel;
-mod kqueues;
-mod pipes;
-mod threads;
 
 use crate::kernel::Kernel;
 use case_words::cases::play_cases;

@@ -4,7 +4,7 @@
 use Rattle.std.specs.Prelude.{ℕ, ◌-◌, ◌==◌, Bool, ◌&&◌, nat_lt, bit_and, bit_or, if◌then◌else◌, List, [], ◌∷◌, ◌++◌, map, filter, take, Option, Some, None, slice_get}
 use Rattle.std.proofs.Math.Bool.{not}
 use Rattle.std.specs.Option.{option_map}
-use Rattle.ready_bits.specs.Ready.{wanted}
+use Rattle.linux_abi.specs.EpollBits.{wanted}
 use Rattle.kqueue_core.specs.declared.knotes.Filter.{Filter}
 use Rattle.kqueue_core.specs.declared.knotes.Filter.TheVariants.{Read, Write}
 use Rattle.kqueue_core.specs.declared.knotes.Event.{Event}

@@ -1,5 +1,5 @@
 //! What a scan reports of interests, and what it leaves of them.
-ghost use Rattle.std.specs.Prelude.{◌≡◌, ◌+◌, ◌-◌, ◌≤◌, ◌<◌, ◌&&◌, ◌++◌, [], nat_lt, length, slice_set, slice_index_or, take, drop, map, Some, None, if◌then◌else◌, vec_len, vec_capacity};
+ghost use Rattle.std.specs.Prelude.{◌≡◌, ◌+◌, ◌≤◌, ◌<◌, ◌&&◌, ◌++◌, [], length, slice_set, slice_index_or, take, drop, map, Some, None, if◌then◌else◌, vec_len, vec_capacity};
 ghost use Rattle.kqueue_core.specs.declared.knotes.Watch.{Watch as TheWatch};
 ghost use Rattle.kqueue_core.specs.Watches.{told_watch};
 ghost use Rattle.kqueue_core.specs.Reports.{knote_bits, watch_bits, is_reported, event_of, without_first, reports, scanned, pick_of};
@@ -12,7 +12,7 @@ fn knote_bits<R: Readiness>(ready: &R, file: u32, filter: Filter, knote: Option<
     ensures { result ≡ knote_bits (R.told ready.now) file filter knote }
 {
     match knote {
-        Some(knote) => ready.bits(file, filter) & ready_bits::wanted(knote.asked),
+        Some(knote) => ready.bits(file, filter) & linux_abi::epoll::wanted(knote.asked),
         None => 0,
     }
 }

@@ -1,7 +1,7 @@
 -- What a pair of knotes shows: its bits, when it is reported, and what a report leaves of it.
 use Rattle.std.proofs.Common.{◌≡◌, ℕ, Bool, true, false, not, ◌||◌, ◌&&◌, Option, Some, refl, sym, ap, ◌∙◌}
 use Rattle.std.specs.Prelude.{◌==◌, bit_and}
-use Rattle.ready_bits.specs.Ready.{wanted}
+use Rattle.linux_abi.specs.EpollBits.{wanted}
 use Rattle.kqueue_core.specs.declared.knotes.Filter.{Filter}
 use Rattle.kqueue_core.specs.declared.knotes.Filter.TheVariants.{Read, Write}
 use Rattle.kqueue_core.specs.declared.knotes.Knote.{Knote}

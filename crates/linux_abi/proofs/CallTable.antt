@@ -55,6 +55,7 @@ call_of-call_number call.Clone = refl
 call_of-call_number call.Mmap = refl
 call_of-call_number call.Mprotect = refl
 call_of-call_number call.Madvise = refl
+call_of-call_number call.FutexWaitv = refl
 
 -- where none is found, no call has the number
 pub none_has : (found : Option Call) (n : ℕ) → found ≡ call_of n

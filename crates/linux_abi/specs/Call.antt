@@ -53,6 +53,7 @@ call_number call.Clone = 220
 call_number call.Mmap = 222
 call_number call.Mprotect = 226
 call_number call.Madvise = 233
+call_number call.FutexWaitv = 449
 
 -- the name under which the manual has it
 abbrev pub call_name : Call → List ℕ
@@ -103,6 +104,7 @@ call_name call.Clone = codes "clone"
 call_name call.Mmap = codes "mmap"
 call_name call.Mprotect = codes "mprotect"
 call_name call.Madvise = codes "madvise"
+call_name call.FutexWaitv = codes "futex_waitv"
 
 -- all of them, by rising number
 abbrev pub calls : List Call
@@ -115,7 +117,7 @@ calls =
     call.RtSigsuspend ∷ call.RtSigaction ∷ call.RtSigprocmask ∷ call.RtSigpending ∷
     call.RtSigreturn ∷ call.Uname ∷ call.Getpid ∷ call.Getppid ∷ call.Getuid ∷ call.Geteuid ∷
     call.Getgid ∷ call.Getegid ∷ call.Gettid ∷ call.Brk ∷ call.Munmap ∷ call.Clone ∷ call.Mmap ∷
-    call.Mprotect ∷ call.Madvise ∷ []
+    call.Mprotect ∷ call.Madvise ∷ call.FutexWaitv ∷ []
 
 -- the call of a number, if one has it
 unfoldable pub call_of : ℕ → Option Call

@@ -10,6 +10,9 @@ futex_operation_number operation.Wake = 1
 futex_operation_number operation.Requeue = 3
 futex_operation_number operation.CompareRequeue = 4
 futex_operation_number operation.WakeOp = 5
+futex_operation_number operation.LockPi = 6
+futex_operation_number operation.UnlockPi = 7
+futex_operation_number operation.TryLockPi = 8
 futex_operation_number operation.WaitBitset = 9
 futex_operation_number operation.WakeBitset = 10
 
@@ -17,7 +20,7 @@ futex_operation_number operation.WakeBitset = 10
 abbrev pub futex_operations : List FutexOperation
 futex_operations =
     operation.Wait ∷ operation.Wake ∷ operation.Requeue ∷ operation.CompareRequeue ∷ operation.WakeOp ∷
-    operation.WaitBitset ∷ operation.WakeBitset ∷ []
+    operation.LockPi ∷ operation.UnlockPi ∷ operation.TryLockPi ∷ operation.WaitBitset ∷ operation.WakeBitset ∷ []
 
 -- the operation of a number, if one has it
 unfoldable pub futex_operation_of : ℕ → Option FutexOperation

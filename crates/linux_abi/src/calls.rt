@@ -100,6 +100,8 @@ pub enum Call {
     Mprotect,
     /// madvise(2).
     Madvise,
+    /// futex_waitv(2).
+    FutexWaitv,
 }
 
 impl Call {
@@ -158,6 +160,7 @@ impl Call {
             222 => Some(Call::Mmap),
             226 => Some(Call::Mprotect),
             233 => Some(Call::Madvise),
+            449 => Some(Call::FutexWaitv),
             _ => None,
         }
     }
@@ -216,6 +219,7 @@ impl Call {
             Call::Mmap => 222,
             Call::Mprotect => 226,
             Call::Madvise => 233,
+            Call::FutexWaitv => 449,
         }
     }
 
@@ -271,6 +275,7 @@ impl Call {
             Call::Mmap => "mmap",
             Call::Mprotect => "mprotect",
             Call::Madvise => "madvise",
+            Call::FutexWaitv => "futex_waitv",
         }
     }
 }

@@ -17,6 +17,8 @@ pub const FUTEX_WAITERS: u32 = 0x8000_0000;
 pub const FUTEX_OWNER_DIED: u32 = 0x4000_0000;
 /// The owner field of a futex word, a tid (get_robust_list(2), linux/futex.h).
 pub const FUTEX_TID_MASK: u32 = 0x3fff_ffff;
+/// The flag of a place of futex_waitv(2) that says: its word has 32 bits (linux/futex.h, FUTEX_32).
+pub const FUTEX_32: u32 = 2;
 /// The most entries of a robust list that a death walks (get_robust_list(2), linux/futex.h).
 pub const ROBUST_LIST_LIMIT: u64 = 2048;
 /// The bytes of a robust list's head: next, offset, pending (get_robust_list(2)).
@@ -35,6 +37,12 @@ pub enum FutexOperation {
     CompareRequeue,
     /// FUTEX_WAKE_OP.
     WakeOp,
+    /// FUTEX_LOCK_PI.
+    LockPi,
+    /// FUTEX_UNLOCK_PI.
+    UnlockPi,
+    /// FUTEX_TRYLOCK_PI.
+    TryLockPi,
     /// FUTEX_WAIT_BITSET.
     WaitBitset,
     /// FUTEX_WAKE_BITSET.
@@ -54,6 +62,9 @@ impl FutexOperation {
             3 => Some(FutexOperation::Requeue),
             4 => Some(FutexOperation::CompareRequeue),
             5 => Some(FutexOperation::WakeOp),
+            6 => Some(FutexOperation::LockPi),
+            7 => Some(FutexOperation::UnlockPi),
+            8 => Some(FutexOperation::TryLockPi),
             9 => Some(FutexOperation::WaitBitset),
             10 => Some(FutexOperation::WakeBitset),
             _ => None,
@@ -72,6 +83,9 @@ impl FutexOperation {
             FutexOperation::Requeue => 3,
             FutexOperation::CompareRequeue => 4,
             FutexOperation::WakeOp => 5,
+            FutexOperation::LockPi => 6,
+            FutexOperation::UnlockPi => 7,
+            FutexOperation::TryLockPi => 8,
             FutexOperation::WaitBitset => 9,
             FutexOperation::WakeBitset => 10,
         }

@@ -20,12 +20,11 @@ use linux_abi::files::IOV_MAX;
 use linux_abi::memory::{Advice, MAP_ANONYMOUS, MAP_FIXED, MAP_PRIVATE, MAP_SHARED, PROT_EXEC};
 use linux_abi::{Call, LinuxErrno};
 use lx_clones::clones::{clone_refusal, set_robust_list_refusal};
-use lx_epolls::epoll_calls::{
-    epoll_create_refusal, epoll_ctl_pieces, epoll_ctl_refusal, epoll_pwait_pieces,
-    epoll_pwait_refusal,
-};
+use lx_epolls::epoll_create::epoll_create_refusal;
+use lx_epolls::epoll_ctl::{epoll_ctl_pieces, epoll_ctl_refusal};
+use lx_epolls::epoll_wait::{epoll_pwait_pieces, epoll_pwait_refusal};
+use lx_futexes::futex_waitv::{waitv_pieces, waitv_refusal};
 use lx_futexes::futexes::{futex_pieces, futex_refusal};
-use lx_futexes::time::{clock_gettime_refusal, nanosleep_pieces};
 use lx_machine::buffer::{NoMemory, ROOM};
 use lx_machine::calls::{LxCall, Piece, Pieces, has_other, refused_if};
 use lx_signal_calls::actions::{sigaction_pieces, sigaction_refusal};
@@ -36,7 +35,9 @@ use lx_signal_calls::masks::{
 use lx_signal_calls::sigreturn::sigreturn_pieces;
 use lx_signal_calls::stacks::sigaltstack_pieces;
 use lx_signals::sending::{kill_refusal, tgkill_refusal, tkill_refusal};
-use lx_transfers::vectors::clip;
+use lx_times::clock_gettime::clock_gettime_refusal;
+use lx_times::nanosleep::nanosleep_pieces;
+use lx_transfers::pieces::clip;
 use std::alloc::Global;
 
 /// The first address that no program has.
@@ -218,6 +219,7 @@ fn refusal(call: &LxCall, kind: Call) -> Option<LinuxErrno>
         Call::Clone => clone_refusal(call),
         Call::SetRobustList => set_robust_list_refusal(call),
         Call::Futex => futex_refusal(call),
+        Call::FutexWaitv => waitv_refusal(call),
         Call::ClockGettime => clock_gettime_refusal(call),
         Call::Kill => kill_refusal(call),
         Call::Tkill => tkill_refusal(call),
@@ -250,6 +252,7 @@ fn first_pieces(alloc: Global, sp: u64, call: &LxCall, kind: Call) -> Result<Pie
         Call::EpollCtl => epoll_ctl_pieces(alloc, call),
         Call::EpollPwait => epoll_pwait_pieces(alloc, call),
         Call::Futex => futex_pieces(alloc, call),
+        Call::FutexWaitv => waitv_pieces(alloc, call),
         Call::Nanosleep => nanosleep_pieces(alloc, call),
         Call::Sigaltstack => sigaltstack_pieces(alloc, call),
         Call::RtSigsuspend => sigsuspend_pieces(alloc, call),

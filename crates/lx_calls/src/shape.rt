@@ -1,27 +1,33 @@
 //! What each call does, one thing after the other. The manual page of each call says so.
 ghost use Rattle.std.specs.Prelude.{◌≡◌, OnErr, OnOk};
 ghost use Rattle.lx_machine.specs.Calls.{answered_stage, low_argument, storing};
-ghost use Rattle.lx_machine.specs.Shape.{fetched, finishing_stage, mask_of, not_fetched, not_written, stage_of, written};
+ghost use Rattle.lx_machine.specs.Shape.{fetched, finishing_stage, mask_of, not_fetched, not_written, restarts, stage_of, written};
 ghost use Rattle.lx_machine.specs.Exit.{exit_stage};
 ghost use Rattle.lx_machine.specs.Read.{read_stage};
 ghost use Rattle.lx_machine.specs.Readv.{readv_stage, vectors, with_vectors};
-ghost use Rattle.lx_machine.specs.Table.{rules};
+ghost use Rattle.lx_machine.specs.Table.{as_asked, rules};
 ghost use Rattle.lx_machine.specs.Transfers.{fetch_first};
 ghost use Rattle.lx_machine.specs.Write.{write_stage};
 
 use linux_abi::{Call, LinuxErrno};
 use lx_clones::clones::{birth_stage, clone_not_stored, clone_stage};
 use lx_clones::robust_list::{death_fetched, death_not_fetched, death_stage, death_stored};
-use lx_epolls::epoll_calls::{epoll_ctl_stage, epoll_pwait_stage};
-use lx_futexes::futexes::{futex_fetched, futex_stage};
-use lx_futexes::time::{clock_gettime_stage, nanosleep_stage, timeout_fetched};
+use lx_epolls::epoll_ctl::epoll_ctl_stage;
+use lx_epolls::epoll_wait::epoll_pwait_stage;
+use lx_futexes::futex_waitv::{waitv_fetched, waitv_restarts, waitv_stage};
+use lx_futexes::futexes::{futex_fetched, futex_restarts, futex_stage};
 use lx_machine::buffer::{NoMemory, ROOM};
-use lx_machine::calls::{LxCall, Piece, Stage};
+use lx_machine::calls::{LxCall, Piece, Restart, Stage};
 use lx_signal_calls::actions::sigaction_stage;
 use lx_signal_calls::masks::{blockable, fetched_mask, sigprocmask_stage, sigsuspend_stage};
 use lx_signal_calls::sigreturn::sigreturn_stage;
 use lx_signal_calls::stacks::sigaltstack_stage;
-use lx_transfers::vectors::{clip, has_negative, read_vectors};
+use lx_times::clock_gettime::clock_gettime_stage;
+use lx_times::nanosleep::nanosleep_stage;
+use lx_times::time::timeout_fetched;
+use lx_transfers::moves::may_restart;
+use lx_transfers::pieces::clip;
+use lx_transfers::readv::{has_negative, read_vectors};
 use std::alloc::Global;
 
 /// The next bytes are stored, and where none are left the call returns.
@@ -120,6 +126,7 @@ fn working(call: &LxCall, kind: Call) -> Stage
         Call::EpollPwait => epoll_pwait_stage(call),
         Call::Clone => clone_stage(call),
         Call::Futex => futex_stage(call),
+        Call::FutexWaitv => waitv_stage(call),
         Call::Nanosleep => nanosleep_stage(call),
         Call::ClockGettime => clock_gettime_stage(call),
         Call::Sigaltstack => sigaltstack_stage(call),
@@ -169,7 +176,8 @@ fn take_vectors(alloc: Global, call: &mut LxCall) -> Result<(), NoMemory>
 }
 
 /// A call after it has fetched a piece: the first piece of a readv or a writev are its vectors (readv(2)), that of a futex
-/// wait and of nanosleep a timeout, and that of a death an entry. Where memory is wanting, nothing changes.
+/// wait and of nanosleep a timeout, those of futex_waitv a timeout and its places, and that of a death an entry. Where memory is
+/// wanting, nothing changes.
 pub fn after_fetch(alloc: Global, call: &mut LxCall) -> Result<(), NoMemory>
     ensures ok { OnOk result (call.new ≡ fetched call.old) }
     ensures err { OnErr result (call.new ≡ call.old) }
@@ -179,6 +187,10 @@ pub fn after_fetch(alloc: Global, call: &mut LxCall) -> Result<(), NoMemory>
         Some(Call::Writev) if call.fetched == 1 => take_vectors(alloc, call),
         Some(Call::Futex) => {
             futex_fetched(call);
+            Ok(())
+        }
+        Some(Call::FutexWaitv) => {
+            waitv_fetched(call);
             Ok(())
         }
         Some(Call::Nanosleep) => {
@@ -232,5 +244,28 @@ pub fn miss_store(call: &mut LxCall)
         Some(Call::Exit) => death_stored(call),
         Some(Call::Clone) => clone_not_stored(call),
         _ => call.refuse(LinuxErrno::EFAULT),
+    }
+}
+
+/// A call that starts again where the signal's handler asks for it, if it may.
+fn as_asked(may: bool) -> Restart
+    ensures { result ≡ as_asked may }
+{
+    if may {
+        Restart::AsAsked
+    } else {
+        Restart::Never
+    }
+}
+
+/// Whether a call starts again after a signal has ended its wait (signal(7)).
+pub fn restarts(call: &LxCall) -> Restart
+    ensures { result ≡ restarts call.now }
+{
+    match Call::new(call.number) {
+        Some(Call::Read | Call::Readv | Call::Write | Call::Writev) => as_asked(may_restart(call)),
+        Some(Call::Futex) => futex_restarts(call),
+        Some(Call::FutexWaitv) => waitv_restarts(call),
+        _ => Restart::Never,
     }
 }

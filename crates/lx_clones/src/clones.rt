@@ -1,10 +1,11 @@
 //! clone(2), set_robust_list(2) and get_robust_list(2).
 ghost use Rattle.std.specs.Prelude.{◌≡◌, ◌≤◌, ◌<◌, ◌+◌, ◌++◌, ◌∷◌, [], length, Some, None, IfSome, IfOk, OnOk, OnErr};
+ghost use Rattle.std.specs.Option.{option_map};
 ghost use Rattle.places.specs.Places.{bytes_of};
 ghost use Rattle.lx_machine.specs.Calls.{argument, first_refusal};
 ghost use Rattle.lx_machine.specs.Lists.{first_free, first_free_from};
 ghost use Rattle.lx_machine.specs.Pieces.{piece};
-ghost use Rattle.lx_machine.specs.Clone.{birth_stage, child_regs, clear_address, clears_for_child, clone_not_stored, clone_refusals, clone_stage, cloned, has_clone_flag, makes_thread, no_regs, no_stack, place_for, reserved, sets_tls, shares_actions, shares_memory, started, store_at, stored_tid, stores_for_child, stores_for_parent, tid_bytes, tid_pieces, with_child, without_child};
+ghost use Rattle.lx_machine.specs.Clone.{birth_stage, child_regs, clear_address, clears_for_child, clone_not_stored, clone_refusals, clone_stage, cloned, has_clone_flag, makes_thread, no_regs, no_stack, place_count, place_for, reserved, sets_tls, shares_actions, shares_memory, started, store_at, stored_tid, stores_for_child, stores_for_parent, tid_bytes, tid_pieces, with_child, without_child};
 ghost use Rattle.lx_machine.specs.RobustList.{asked_list, get_robust_list, is_living, list_answered, robust_list_of, set_robust_list, set_robust_list_refusals, with_robust_list};
 
 use a64_model::regs::Regs;
@@ -14,6 +15,7 @@ use lx_machine::buffer::{Bytes, NoMemory};
 use lx_machine::calls::{LxCall, Piece, Pieces, Stage, has_other, refused_if};
 use lx_machine::signals::Pending;
 use lx_machine::state::{Slot, THREADS};
+use lx_machine::thread_table::Threads;
 use lx_machine::threads::{AltStack, Life, LxThread};
 use std::alloc::Global;
 
@@ -105,7 +107,7 @@ pub fn clone_refusal(call: &LxCall) -> Option<LinuxErrno>
 
 /// The lowest free place, where these are the places from `from` on.
 fn first_free_from(from: u8, places: &[Option<LxThread>]) -> Option<u8>
-    requires { from + length places.now ≤ 32 }
+    requires { from + length places.now ≤ 128 }
     ensures place { result ≡ first_free_from from places.now }
     ensures below { IfSome result (λ place. place < from + length places.now) }
 {
@@ -116,14 +118,23 @@ fn first_free_from(from: u8, places: &[Option<LxThread>]) -> Option<u8>
     }
 }
 
+/// How many places there are for threads by these rules.
+fn place_count(rules: u8) -> usize
+    ensures value { result ≡ place_count rules }
+    ensures below { result ≤ THREADS }
+{
+    if rules == 1 { 32 } else { THREADS }
+}
+
 /// The lowest free place, as long as there is a tid (clone(2)).
-fn place_for(threads: &[Option<LxThread>; THREADS], next_tid: u32) -> Option<Slot>
-    ensures { result ≡ place_for threads.now next_tid }
+fn place_for(rules: u8, threads: &[Option<LxThread>], next_tid: u32) -> Option<Slot>
+    requires { length threads.now ≡ THREADS }
+    ensures { result ≡ place_for rules threads.now next_tid }
 {
     if next_tid > LAST_TID {
         None
     } else {
-        Slot::new(first_free_from(0, threads)?)
+        Slot::new(first_free_from(0, &threads[..place_count(rules)])?)
     }
 }
 
@@ -231,21 +242,22 @@ fn set_child(alloc: Global, call: &mut LxCall, tid: u32, slot: Slot) -> Result<(
 /// clone(2): the lowest free place and the next tid are reserved. Where memory is wanting, nothing changes.
 pub fn cloned(
     alloc: Global,
-    threads: &mut [Option<LxThread>; THREADS],
+    rules: u8,
+    threads: &mut Threads,
     next_tid: &mut u32,
     mask: u64,
     call: &mut LxCall,
 ) -> Result<(), NoMemory>
-    ensures ok { OnOk result (cloned threads.old next_tid.old mask call.old ≡ record { threads = threads.new; next_tid = next_tid.new; call = call.new }) }
+    ensures ok { OnOk result (cloned rules threads.old next_tid.old mask call.old ≡ record { threads = threads.new; next_tid = next_tid.new; call = call.new }) }
     ensures err { OnErr result ((threads.new ≡ threads.old) × (next_tid.new ≡ next_tid.old) × (call.new ≡ call.old)) }
 {
     let tid = *next_tid;
-    let Some(slot) = place_for(threads, tid) else {
+    let Some(slot) = place_for(rules, threads.as_slice(), tid) else {
         call.refuse(LinuxErrno::EAGAIN);
         return Ok(());
     };
     set_child(alloc, call, tid, slot)?;
-    threads[slot.index()] = Some(reserved(tid, mask));
+    threads.put(slot, reserved(tid, mask));
     *next_tid = tid + 1;
     Ok(())
 }
@@ -332,28 +344,36 @@ pub fn set_robust_list(thread: &mut LxThread, call: &mut LxCall)
     call.answer(0);
 }
 
-/// Whether it is a live thread with this tid.
-fn is_living(tid: u32, thread: &LxThread) -> bool
-    ensures { result ≡ is_living tid thread.now }
+/// Whether a live thread with this tid stands in the place.
+fn is_living(tid: u32, place: &Option<LxThread>) -> bool
+    ensures { result ≡ is_living tid place.now }
 {
-    thread.tid == tid && matches!(thread.life, Life::Live)
+    match place {
+        None => false,
+        Some(thread) => thread.tid == tid && matches!(thread.life, Life::Live),
+    }
+}
+
+/// The robust list of the thread in the place, if there is one.
+fn robust_head(place: &Option<LxThread>) -> Option<u64>
+    ensures { result ≡ option_map (λ t. t.robust_head) place.now }
+{
+    match place {
+        None => None,
+        Some(thread) => Some(thread.robust_head),
+    }
 }
 
 /// The robust list of the live thread with a tid, if there is one.
 fn robust_list_of(tid: u32, threads: &[Option<LxThread>]) -> Option<u64>
     ensures { result ≡ robust_list_of tid threads.now }
 {
-    match threads {
-        [] => None,
-        [None, rest @ ..] => robust_list_of(tid, rest),
-        [Some(thread), rest @ ..] => {
-            if is_living(tid, thread) {
-                Some(thread.robust_head)
-            } else {
-                robust_list_of(tid, rest)
-            }
+    for place in threads {
+        if is_living(tid, place) {
+            return robust_head(place);
         }
     }
+    None
 }
 
 /// The robust list that is asked for.

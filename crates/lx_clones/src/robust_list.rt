@@ -1,20 +1,26 @@
 //! The death of a thread: its robust futexes, and its clear address (get_robust_list(2), set_tid_address(2)).
-ghost use Rattle.std.specs.Prelude.{◌≡◌, [], ◌∷◌, Some, IfOk, OnOk, OnErr};
+ghost use Rattle.std.specs.Prelude.{◌≡◌, ◌==◌, [], ◌∷◌, ℕ, false, if◌then◌else◌, IfOk, OnOk, OnErr};
+ghost use Rattle.lx_memory.specs.Bytes.{IsMapped};
 ghost use Rattle.lx_machine.specs.Futex.{writable_word};
-ghost use Rattle.lx_machine.specs.RobustList.{address, after_clear, after_entries, after_walk, at_entry, at_next, begun, clearing, death_fetched, death_marked, death_not_fetched, death_released, death_stage, death_stored, fetched_at, first_death, goes_to, has_waiters, has_word, is_address, is_inheriting, is_same_entry, mark_of, marked, marked_at, orphaned, owned, owner, queue_after, stepped, with_head, word_address};
+ghost use Rattle.lx_machine.specs.FutexPi.{owner};
+ghost use Rattle.lx_machine.specs.PiQueue.{first_pi};
+ghost use Rattle.lx_machine.specs.RobustList.{address, after_clear, after_entries, after_walk, at_entry, at_next, begun, clearing, death_fetched, death_marked, death_not_fetched, death_released, death_stage, death_stored, fetched_at, first_death, goes_to, hands_over, has_waiters, has_word, is_address, is_given_back, is_inheriting, is_same_entry, mark_of, marked, marked_at, not_owned, orphaned, orphans, owned, pending_mark_of, stepped, with_head, word_address, Futexes};
+ghost use Rattle.lx_machine.specs.Queue.{all_bits, released};
 
 use linux_abi::futexes::{
-    FUTEX_BITSET_MATCH_ANY, FUTEX_OWNER_DIED, FUTEX_TID_MASK, FUTEX_WAITERS, ROBUST_HEAD_SIZE,
+    FUTEX_BITSET_MATCH_ANY, FUTEX_OWNER_DIED, FUTEX_WAITERS, ROBUST_HEAD_SIZE,
 };
-use lx_futexes::futexes::{Written, is_unaligned_word};
-use lx_futexes::time::field;
+use lx_futexes::futex_pi::{hand_over, owner};
+use lx_futexes::futexes::{NOTHING, Written, is_unaligned_word};
 use lx_futexes::words::{readable_word, set_word, writable_word};
 use lx_machine::buffer::{Bytes, NoMemory};
 use lx_machine::calls::{LxCall, Piece, Stage};
 use lx_machine::death::{Death, DeathPlace};
 use lx_machine::futexes::{Mark, Wake};
+use lx_machine::pi_queue::PiQueue;
 use lx_machine::queue::Queue;
 use lx_memory::Memory;
+use lx_times::time::field;
 use std::alloc::Global;
 
 /// The most entries of a walk (get_robust_list(2)).
@@ -79,7 +85,18 @@ fn mark_of(pointer: u64, offset: u64) -> Mark
 {
     Mark {
         at: word_address(pointer, offset),
-        wakes: !is_inheriting(pointer),
+        inherits: is_inheriting(pointer),
+        is_pending: false,
+    }
+}
+
+/// The mark of the pending entry's word.
+fn pending_mark_of(pointer: u64, offset: u64) -> Mark
+    ensures { result ≡ pending_mark_of pointer offset }
+{
+    Mark {
+        is_pending: true,
+        ..mark_of(pointer, offset)
     }
 }
 
@@ -209,7 +226,7 @@ pub fn death_stage(death: Death) -> Stage
             len: POINTER,
         }),
         DeathPlace::Entry(_) => Stage::Mark(mark_of(death.entry, death.offset)),
-        DeathPlace::Pending => Stage::Mark(mark_of(death.pending, death.offset)),
+        DeathPlace::Pending => Stage::Mark(pending_mark_of(death.pending, death.offset)),
         DeathPlace::Clear => Stage::Store(Piece {
             at: death.clear_at,
             len: WORD,
@@ -349,13 +366,6 @@ pub fn death_released(call: &mut LxCall)
     }
 }
 
-/// The owner of a futex.
-fn owner(word: u32) -> u32
-    ensures { result ≡ owner word }
-{
-    word & FUTEX_TID_MASK
-}
-
 /// Whether someone waits.
 fn has_waiters(word: u32) -> bool
     ensures { result ≡ has_waiters word }
@@ -377,30 +387,19 @@ pub struct MarkDone {
     pub written: Written,
 }
 
-/// Nothing is written.
-const NOTHING: Written = Written { at: 0, len: 0 };
-
-/// A waiter is released where someone waits.
-fn release_one(queue: &mut Queue, mark: Mark, word: u32)
-    ensures { queue.new ≡ queue_after queue.old mark word }
+/// One waiter at the word is released.
+fn release_one(queue: &mut Queue, mark: Mark)
+    ensures { queue.new ≡ released mark.at 1 all_bits queue.old }
 {
-    if has_waiters(word) && mark.wakes {
-        queue.release(mark.at, 1, FUTEX_BITSET_MATCH_ANY);
-    }
+    queue.release(mark.at, 1, FUTEX_BITSET_MATCH_ANY);
 }
 
-/// Marks a word of the thread itself.
-fn mark_own(pages: &mut Memory, queue: &mut Queue, mark: Mark) -> MarkDone
-    ensures { owned pages.old queue.old mark (writable_word pages.old mark.at) ≡ record { pages = pages.new; queue = queue.new; fault = result.fault; at = result.written.at; written = result.written.len } }
+/// The word of the mark has been written, without a fault.
+fn written(mark: Mark) -> MarkDone
+    ensures fault { result.fault ≡ false }
+    ensures at { result.written.at ≡ mark.at }
+    ensures len { result.written.len ≡ 4 }
 {
-    let Some(word) = writable_word(pages, mark.at) else {
-        return MarkDone {
-            fault: true,
-            written: NOTHING,
-        };
-    };
-    set_word(pages, mark.at, orphaned(word));
-    release_one(queue, mark, word);
     MarkDone {
         fault: false,
         written: Written {
@@ -410,31 +409,117 @@ fn mark_own(pages: &mut Memory, queue: &mut Queue, mark: Mark) -> MarkDone
     }
 }
 
-/// Whether Mark of this word meets a fault: it may not be read, or is the thread's and may not be written.
-pub fn mark_faults(pages: &Memory, tid: u32, queue: &Queue, mark: Mark) -> bool
-    ensures { result ≡ (marked pages.now tid queue.now mark).fault }
+/// The word stays.
+fn stays(fault: bool) -> MarkDone
+    ensures fault { result.fault ≡ fault }
+    ensures at { result.written.at ≡ 0 }
+    ensures len { result.written.len ≡ 0 }
 {
-    let _queue = queue;
+    MarkDone {
+        fault,
+        written: NOTHING,
+    }
+}
+
+/// A futex is orphaned, and a waiter is released where someone waits.
+fn orphan(
+    pages: &mut Memory,
+    queue: &mut Queue,
+    pi_queue: &PiQueue,
+    mark: Mark,
+    word: u32,
+) -> MarkDone
+    requires { IsMapped pages.old mark.at 4 }
+    ensures { orphans pages.old (record { queue = queue.old; pi_queue = pi_queue.now }) mark word ≡ record { pages = pages.new; left = record { queue = queue.new; pi_queue = pi_queue.now }; fault = result.fault; at = result.written.at; written = result.written.len } }
+{
+    set_word(pages, mark.at, orphaned(word));
+    if has_waiters(word) {
+        release_one(queue, mark);
+    }
+    written(mark)
+}
+
+/// A lock that names its owner goes to the first that waits for it, and is orphaned where nobody does.
+fn give_on(
+    pages: &mut Memory,
+    queue: &Queue,
+    pi_queue: &mut PiQueue,
+    mark: Mark,
+    word: u32,
+) -> MarkDone
+    requires { IsMapped pages.old mark.at 4 }
+    ensures { hands_over pages.old (record { queue = queue.now; pi_queue = pi_queue.old }) mark word (first_pi mark.at pi_queue.old) ≡ record { pages = pages.new; left = record { queue = queue.now; pi_queue = pi_queue.new }; fault = result.fault; at = result.written.at; written = result.written.len } }
+{
+    match pi_queue.first(mark.at) {
+        Some(heir) => hand_over(pages, pi_queue, mark.at, true, heir),
+        None => set_word(pages, mark.at, orphaned(word)),
+    }
+    written(mark)
+}
+
+/// Marks a word of the thread itself.
+fn mark_own(pages: &mut Memory, queue: &mut Queue, pi_queue: &mut PiQueue, mark: Mark) -> MarkDone
+    ensures { owned pages.old (record { queue = queue.old; pi_queue = pi_queue.old }) mark (writable_word pages.old mark.at) ≡ record { pages = pages.new; left = record { queue = queue.new; pi_queue = pi_queue.new }; fault = result.fault; at = result.written.at; written = result.written.len } }
+{
+    match writable_word(pages, mark.at) {
+        None => stays(true),
+        Some(word) if mark.inherits => give_on(pages, queue, pi_queue, mark, word),
+        Some(word) => orphan(pages, queue, pi_queue, mark, word),
+    }
+}
+
+/// Whether the thread has given the futex of the pending entry back, and may not have woken anyone yet.
+fn is_given_back(rules: u8, mark: Mark, word: u32) -> bool
+    ensures { result ≡ is_given_back rules mark word }
+{
+    rules == 2 && mark.is_pending && !mark.inherits && word == 0
+}
+
+/// A word of another thread, or of none.
+fn pass(rules: u8, queue: &mut Queue, mark: Mark, word: u32) -> MarkDone
+    ensures queue { queue.new ≡ (if is_given_back rules mark word then released mark.at 1 all_bits queue.old else queue.old) }
+    ensures fault { result.fault ≡ false }
+    ensures at { result.written.at ≡ 0 }
+    ensures len { result.written.len ≡ 0 }
+{
+    if is_given_back(rules, mark, word) {
+        release_one(queue, mark);
+    }
+    stays(false)
+}
+
+/// Whether the thread owns the futex with this word.
+fn is_own(tid: u32, word: u32) -> bool
+    ensures { result ≡ (owner word == tid) }
+{
+    owner(word) == tid
+}
+
+/// Whether Mark of this word meets a fault: it may not be read, or is the thread's and may not be written.
+pub fn mark_faults(pages: &Memory, tid: u32, mark: Mark) -> bool
+    ensures { (rules : ℕ) (fs : Futexes) → result ≡ (marked rules pages.now tid fs mark).fault }
+{
     match readable_word(pages, mark.at) {
-        Some(word) if owner(word) == tid => writable_word(pages, mark.at).is_none(),
+        Some(word) if is_own(tid, word) => writable_word(pages, mark.at).is_none(),
         Some(_) => false,
         None => true,
     }
 }
 
 /// Marks a word where the thread owns it (get_robust_list(2)).
-pub fn marked(pages: &mut Memory, tid: u32, queue: &mut Queue, mark: Mark) -> MarkDone
-    ensures { marked pages.old tid queue.old mark ≡ record { pages = pages.new; queue = queue.new; fault = result.fault; at = result.written.at; written = result.written.len } }
+pub fn marked(
+    rules: u8,
+    pages: &mut Memory,
+    tid: u32,
+    queue: &mut Queue,
+    pi_queue: &mut PiQueue,
+    mark: Mark,
+) -> MarkDone
+    ensures { marked rules pages.old tid (record { queue = queue.old; pi_queue = pi_queue.old }) mark ≡ record { pages = pages.new; left = record { queue = queue.new; pi_queue = pi_queue.new }; fault = result.fault; at = result.written.at; written = result.written.len } }
 {
     match readable_word(pages, mark.at) {
-        Some(word) if owner(word) == tid => mark_own(pages, queue, mark),
-        Some(_) => MarkDone {
-            fault: false,
-            written: NOTHING,
-        },
-        None => MarkDone {
-            fault: true,
-            written: NOTHING,
-        },
+        Some(word) if is_own(tid, word) => mark_own(pages, queue, pi_queue, mark),
+        Some(word) => pass(rules, queue, mark, word),
+        None => stays(true),
     }
 }

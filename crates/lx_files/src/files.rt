@@ -1,67 +1,13 @@
-//! Open files, and what ends with them.
-ghost use Rattle.std.specs.Prelude.{◌≡◌, ◌<◌, ◌+◌, ◌^◌, ◌≤◌, drop, length, slice_set, IfSome, OnErr, OnOk};
+//! Open files, and what ends with them (open(2), close(2)).
 ghost use Rattle.std.specs.List.{list_any};
-ghost use Rattle.lx_machine.specs.Lists.{at_place, first_free, first_free_from, without_place};
-ghost use Rattle.lx_machine.specs.Interests.{armed_on, without_interests};
-ghost use Rattle.lx_machine.specs.Files.{after_end_of, closed, closed_if_unnamed, ended_if_unnamed, given_back, has_reader, has_writer, held_once_less, held_once_more, is_open_as, is_read_end, is_unnamed, is_write_end, names, numbered_at, with_descriptor, with_file, with_hold, without_file, without_pipe};
+ghost use Rattle.std.specs.Prelude.{OnErr, OnOk, ◌≡◌};
+ghost use Rattle.lx_machine.specs.Files.{after_end_of, closed, closed_if_unnamed, descriptor, ended_if_unnamed, given_back, has_reader, has_writer, is_read_end, is_unnamed, is_write_end, names, numbered_at, with_descriptor, with_file, with_hold, without_file, without_pipe};
+ghost use Rattle.lx_machine.specs.Interests.{armed_on};
 
 use crate::interests::{arm_on, remove_interests};
+use crate::lists::{place_at, set_place};
 use lx_machine::buffer::NoMemory;
 use lx_machine::files::{Descriptor, FileKind, Files, NumberedFile, OpenFile};
-
-/// The lowest free place, where these are the places from `from` on.
-pub fn first_free_from<T>(from: u32, places: &[Option<T>]) -> Option<u32>
-    requires { from + length places.now < 2 ^ 32 }
-    ensures place { result ≡ first_free_from from places.now }
-    ensures fits { IfSome result (λ i. i < from + length places.now) }
-{
-    match places {
-        [] => None,
-        [None, ..] => Some(from),
-        [Some(_), rest @ ..] => first_free_from(from + 1, rest),
-    }
-}
-
-/// The lowest free place.
-pub fn first_free<T>(places: &[Option<T>]) -> Option<u32>
-    requires { length places.now < 2 ^ 32 }
-    ensures place { result ≡ first_free places.now }
-    ensures fits { IfSome result (λ i. i < length places.now) }
-{
-    first_free_from(0, places)
-}
-
-/// The lowest free place from `from` on.
-#[tactic(auto, using(std::proofs::lemmas::List::take_rest))]
-pub fn next_free<T>(places: &[Option<T>], from: u32) -> Option<u32>
-    requires from { from ≤ length places.now }
-    requires length { length places.now < 2 ^ 31 }
-    ensures place { result ≡ first_free_from from (drop from places.now) }
-    ensures fits { IfSome result (λ i. i < length places.now) }
-{
-    first_free_from(from, &places[from as usize..])
-}
-
-/// What stands at a place, if there is such a place and it isn't free.
-pub fn place_at<T: Copy>(places: &[Option<T>], at: u32) -> Option<T>
-    ensures { result ≡ at_place places.now at }
-{
-    match places.get(at as usize) {
-        Some(place) => *place,
-        None => None,
-    }
-}
-
-/// Sets a place, if there is one of this number.
-#[tactic(auto, using(std::proofs::lemmas::List::set_past))]
-pub fn set_place<T: Drop>(places: &mut [Option<T>], at: u32, place: Option<T>)
-    ensures { places.new ≡ slice_set places.old at place }
-{
-    let at = at as usize;
-    if at < places.len() {
-        places[at] = place;
-    }
-}
 
 /// The open file of this number, if there is one.
 pub fn numbered_at(files: &Files, number: u32) -> Option<NumberedFile>
@@ -223,6 +169,16 @@ pub fn give_back(files: &mut Files, file: u32)
         };
         set_place(&mut files.files, file, Some(left));
         settle(files, file);
+    }
+}
+
+/// A descriptor for this open file.
+pub fn descriptor(file: u32, close_on_exec: bool) -> Descriptor
+    ensures { result ≡ descriptor file close_on_exec }
+{
+    Descriptor {
+        file,
+        close_on_exec,
     }
 }
 

@@ -1,6 +1,6 @@
 //! What changes in all epolls at once (epoll(7)).
-ghost use Rattle.std.specs.Prelude.{◌≡◌, ◌≤◌, ◌++◌, map, take, drop, length};
 ghost use Rattle.std.specs.Option.{option_map};
+ghost use Rattle.std.specs.Prelude.{drop, length, map, take, ◌++◌, ◌≡◌, ◌≤◌};
 ghost use Rattle.lx_machine.specs.Interests.{armed_for, armed_on, drained_side, side_holds, without_first_of, without_interests, without_those_in};
 
 use lx_machine::files::{FileKind, Files, Interests, OpenFile};

@@ -1,24 +1,24 @@
 //! futex(2): its refusals at entry, its shape, and its steps.
-ghost use Rattle.std.specs.Prelude.{◌≡◌, ◌<◌, ◌^◌, length, Some, None, IfOk, IfErr, OnOk, OnErr};
-ghost use Rattle.lx_machine.specs.Calls.{first_refusal, low_argument};
-ghost use Rattle.lx_machine.specs.Futex.{after_wake_op, bit_set_refusals, compares, comparison_in, deadline_by, extended, futex_clocked, futex_fetched, futex_pieces, futex_refusals, futex_stage, has_clock_flag, has_second, has_time, is_negative, is_timed, is_unaligned_word, is_wait, leaves_queue, moves_on, operand_in, operated, operation_in, operation_number, operation_refusals, own_refusals, queued, requeue_of, requeue_refusals, requeue_releases, requeued, requeued_by, resumed, value_in, wait_expired, wait_from, wait_of, wake_of, wake_op_by, wake_op_refusals, wakes_after, with_wake_op, woken, word_operation_in};
+ghost use Rattle.std.specs.Prelude.{◌≡◌, ◌<◌, ◌≤◌, ◌^◌, length, Some, None, IfOk, IfErr, OnOk, OnErr};
+ghost use Rattle.lx_machine.specs.Calls.{first_refusal, low_argument, waits_no_more};
+ghost use Rattle.lx_machine.specs.Futex.{after_wake_op, bit_set_refusals, compares, comparison_in, deadline_by, extended, futex_clocked, futex_fetched, futex_pieces, futex_refusals, futex_restarts, futex_stage, has_clock_flag, has_second, has_time, is_negative, is_timed, is_unaligned_word, is_wait, left_queue, lock_of, lock_stage, may_wait, moves_on, operand_in, operated, operation_in, operation_number, operation_refusals, own_refusals, place_queued, place_refused, queued, requeue_of, requeue_refusals, requeue_releases, requeued, requeued_by, resumed, value_in, wait_expired, wait_given_up, wait_of, wait_stage, waiter, waiting_from, wake_of, wake_op_by, wake_op_refusals, wakes_after, woken, word_operation_in};
 ghost use Rattle.lx_machine.specs.Queue.{queue_outcome};
 
-use crate::time::{add_time, duration, has_passed, set_deadline, timeout_fetched};
 use crate::words::{readable_word, set_word, writable_word};
 use linux_abi::LinuxErrno;
 use linux_abi::futexes::{Comparison, FUTEX_BITSET_MATCH_ANY, FutexOperation, WordOperation};
 use lx_machine::buffer::NoMemory;
-use lx_machine::calls::{LxCall, Pieces, Stage, refused_if};
-use lx_machine::futexes::{Requeue, Wait, Wake, WakeOp};
+use lx_machine::calls::{LxCall, Pieces, Restart, Stage, refused_if};
+use lx_machine::futexes::{PiLock, Requeue, Wait, Wake, WakeOp};
 use lx_machine::queue::Queue;
 use lx_machine::refusal::LxRefusal;
 use lx_machine::threads::LxWaiter;
 use lx_memory::Memory;
+use lx_times::time::{TIME, add_time, duration, has_passed, set_deadline, timeout_fetched};
 use std::alloc::Global;
 
-/// The bytes of a struct timespec.
-const TIME: u64 = 16;
+/// The most places of a wait.
+pub(crate) const MOST_PLACES: u32 = 32;
 
 /// The operation's number: without FUTEX_PRIVATE_FLAG and FUTEX_CLOCK_REALTIME.
 fn operation_number(op: u32) -> u32
@@ -41,11 +41,21 @@ fn operation_in(call: &LxCall) -> Option<FutexOperation>
     FutexOperation::new(u64::from(operation_number(call.low_argument(1))))
 }
 
-/// Whether it is a wait.
+/// Whether it is a wait, which may name a clock.
 fn is_wait(operation: FutexOperation) -> bool
     ensures { result ≡ is_wait operation }
 {
     matches!(operation, FutexOperation::Wait | FutexOperation::WaitBitset)
+}
+
+/// Whether it is an operation that may wait.
+fn may_wait(operation: FutexOperation) -> bool
+    ensures { result ≡ may_wait operation }
+{
+    matches!(
+        operation,
+        FutexOperation::Wait | FutexOperation::WaitBitset | FutexOperation::LockPi
+    )
 }
 
 /// Whether it is an operation on two words.
@@ -157,12 +167,12 @@ pub fn is_timed(call: &LxCall) -> bool
     call.arguments[3] != 0
 }
 
-/// What futex(2) fetches first: the timeout of a wait.
+/// What futex(2) fetches first: the timeout of an operation that may wait.
 pub fn futex_pieces(alloc: Global, call: &LxCall) -> Result<Pieces, NoMemory>
     ensures { IfOk result (λ pieces. pieces ≡ futex_pieces call.now) }
 {
     match operation_in(call) {
-        Some(operation) if is_wait(operation) && is_timed(call) => {
+        Some(operation) if may_wait(operation) && is_timed(call) => {
             Pieces::one(alloc, call.arguments[3], TIME)
         }
         _ => Ok(Pieces::none(alloc)),
@@ -182,8 +192,10 @@ fn wait_of(call: &LxCall, bits: u32) -> Wait
 {
     Wait {
         at: call.arguments[0],
-        expected: call.low_argument(2),
+        expected: u64::from(call.low_argument(2)),
         bits,
+        place: 0,
+        many: false,
     }
 }
 
@@ -261,15 +273,15 @@ fn wake_op_stage(call: &LxCall) -> Stage
 }
 
 /// Whether the call has a timeout whose deadline is still to be set.
-fn has_time(call: &LxCall) -> bool
+pub(crate) fn has_time(call: &LxCall) -> bool
     ensures { result ≡ has_time call.now }
 {
     is_timed(call) && call.deadline.is_none()
 }
 
-/// What a wait does next.
-fn wait_stage(call: &LxCall, bits: u32) -> Stage
-    ensures { result ≡ wait_from call.now bits call.now.pieces }
+/// What a call that may wait does next, where this is its first step, and it waits at that.
+fn waiting_from(call: &LxCall, first: Stage, waits: Stage) -> Stage
+    ensures { result ≡ waiting_from call.now first waits call.now.pieces }
 {
     if let Some(p) = call.pieces.as_slice().first() {
         return Stage::Fetch(*p);
@@ -277,10 +289,31 @@ fn wait_stage(call: &LxCall, bits: u32) -> Stage
     if has_time(call) {
         return Stage::Clock;
     }
-    if call.waits {
-        return Stage::Wait;
+    if call.waits { waits } else { first }
+}
+
+/// What a wait does next.
+fn wait_stage(call: &LxCall, bits: u32) -> Stage
+    ensures { result ≡ wait_stage call.now bits }
+{
+    waiting_from(call, Stage::Queue(wait_of(call, bits)), Stage::Wait)
+}
+
+/// The call's lock, which is asked for so, or tried.
+fn lock_of(call: &LxCall, tries: bool) -> PiLock
+    ensures { result ≡ lock_of call.now tries }
+{
+    PiLock {
+        at: call.arguments[0],
+        tries,
     }
-    Stage::Queue(wait_of(call, bits))
+}
+
+/// What a call that asks for a lock does next.
+fn lock_stage(call: &LxCall) -> Stage
+    ensures { result ≡ lock_stage call.now }
+{
+    waiting_from(call, Stage::PiLock(lock_of(call, false)), Stage::PiWait)
 }
 
 /// What futex(2) does next.
@@ -293,6 +326,9 @@ pub fn futex_stage(call: &LxCall) -> Stage
     match operation {
         FutexOperation::Wait => wait_stage(call, FUTEX_BITSET_MATCH_ANY),
         FutexOperation::WaitBitset => wait_stage(call, call.low_argument(5)),
+        FutexOperation::LockPi => lock_stage(call),
+        FutexOperation::TryLockPi => Stage::PiLock(lock_of(call, true)),
+        FutexOperation::UnlockPi => Stage::PiUnlock(call.arguments[0]),
         FutexOperation::Wake => Stage::Release(wake_of(call, FUTEX_BITSET_MATCH_ANY)),
         FutexOperation::WakeBitset => Stage::Release(wake_of(call, call.low_argument(5))),
         FutexOperation::Requeue => Stage::Requeue(requeue_of(call, None)),
@@ -303,14 +339,14 @@ pub fn futex_stage(call: &LxCall) -> Stage
     }
 }
 
-/// The deadline of a wait: the timeout of FUTEX_WAIT_BITSET is a time, and that of FUTEX_WAIT goes from now on.
+/// The deadline of a wait: the timeout of FUTEX_WAIT goes from now on, and that of the others is a time.
 fn deadline_of(clock: u64, call: &LxCall) -> u64
     ensures { result ≡ deadline_by clock call.now (operation_in call.now) }
 {
     let micros = duration(call.bytes.as_slice());
     match operation_in(call) {
-        Some(FutexOperation::WaitBitset) => micros,
-        _ => add_time(clock, micros),
+        Some(FutexOperation::Wait) => add_time(clock, micros),
+        _ => micros,
     }
 }
 
@@ -322,7 +358,58 @@ pub fn futex_clocked(clock: u64, call: &mut LxCall)
     set_deadline(call, deadline);
 }
 
-/// The thread queues, unless the word is another or may not be read. `NoMemory`: the queue is full; then nothing changes.
+/// Whether futex(2) starts again after a signal has ended its wait.
+pub fn futex_restarts(call: &LxCall) -> Restart
+    ensures { result ≡ futex_restarts call.now }
+{
+    match operation_in(call) {
+        Some(FutexOperation::LockPi) => Restart::Always,
+        _ => {
+            if is_timed(call) {
+                Restart::Never
+            } else {
+                Restart::AsAsked
+            }
+        }
+    }
+}
+
+/// The waiter that the thread is at this place.
+fn waiter(tid: u32, wait: Wait) -> LxWaiter
+    ensures { result ≡ waiter tid wait }
+{
+    LxWaiter {
+        tid,
+        place: wait.place,
+        many: wait.many,
+        address: wait.at,
+        bits: wait.bits,
+    }
+}
+
+/// The call's place has queued.
+fn place_queued(call: &mut LxCall, wait: Wait)
+    ensures { call.new ≡ place_queued call.old wait }
+{
+    if wait.many {
+        call.queued = call.queued.saturating_add(1).min(MOST_PLACES);
+    } else {
+        call.waits = true;
+    }
+}
+
+/// The call's place was refused.
+fn place_refused(call: &mut LxCall, wait: Wait, e: LinuxErrno)
+    ensures { call.new ≡ place_refused call.old wait e }
+{
+    if wait.many {
+        call.refusal = Some(e);
+    } else {
+        call.refuse(e);
+    }
+}
+
+/// The place queues, unless the word is another or may not be read. `NoMemory`: the queue is full; then nothing changes.
 pub fn queued(
     pages: &Memory,
     tid: u32,
@@ -332,19 +419,15 @@ pub fn queued(
 ) -> Result<(), NoMemory>
     ensures ok { OnOk result (queued pages.now tid queue.old call.old wait ≡ queue_outcome queue.new call.new) }
     ensures err { OnErr result ((queue.new ≡ queue.old) × (call.new ≡ call.old)) }
-    ensures full { OnErr result (length queue.old ≡ 32) }
+    ensures full { OnErr result (4096 ≤ length queue.old) }
 {
     match readable_word(pages, wait.at) {
-        None => call.refuse(LinuxErrno::EFAULT),
-        Some(word) if word == wait.expected => {
-            queue.push(LxWaiter {
-                tid,
-                address: wait.at,
-                bits: wait.bits,
-            })?;
-            call.waits = true;
+        None => place_refused(call, wait, LinuxErrno::EFAULT),
+        Some(word) if u64::from(word) == wait.expected => {
+            queue.push(waiter(tid, wait))?;
+            place_queued(call, wait);
         }
-        Some(_) => call.refuse(LinuxErrno::EAGAIN),
+        Some(_) => place_refused(call, wait, LinuxErrno::EAGAIN),
     }
     Ok(())
 }
@@ -443,13 +526,16 @@ pub struct Written {
     pub len: u64,
 }
 
+/// Nothing is written.
+pub const NOTHING: Written = Written { at: 0, len: 0 };
+
 /// The second word changes, and waiters leave at both.
 pub fn wake_op(pages: &mut Memory, queue: &mut Queue, call: &mut LxCall, asked: WakeOp) -> Written
     ensures { after_wake_op pages.old queue.old call.old asked ≡ record { pages = pages.new; queue = queue.new; call = call.new; at = result.at; written = result.len } }
 {
     let Some(word) = writable_word(pages, asked.to) else {
         call.refuse(LinuxErrno::EFAULT);
-        return Written { at: 0, len: 0 };
+        return NOTHING;
     };
     set_word(
         pages,
@@ -465,6 +551,15 @@ pub fn wake_op(pages: &mut Memory, queue: &mut Queue, call: &mut LxCall, asked: 
     }
 }
 
+/// The call waits at no futex any more.
+pub(crate) fn wait_no_more(call: &mut LxCall)
+    ensures { call.new ≡ waits_no_more call.old }
+{
+    call.waits = false;
+    call.queued = 0;
+    call.refusal = None;
+}
+
 /// A thread that waited and was released goes on. Not enabled: it is queued, or doesn't wait; then nothing changes.
 pub fn resumed(tid: u32, queue: &Queue, call: &mut LxCall) -> Result<(), LxRefusal>
     ensures ok { OnOk result (resumed tid queue.now call.old ≡ Some call.new) }
@@ -476,22 +571,35 @@ pub fn resumed(tid: u32, queue: &Queue, call: &mut LxCall) -> Result<(), LxRefus
         return Err(LxRefusal::NoStep);
     }
     call.answer(0);
-    call.waits = false;
+    wait_no_more(call);
     Ok(())
 }
 
+/// A waiting thread leaves the queue, and its call is refused.
+pub(crate) fn leave_queue(e: LinuxErrno, tid: u32, queue: &mut Queue, call: &mut LxCall)
+    ensures { left_queue e tid queue.old call.old ≡ queue_outcome queue.new call.new }
+{
+    queue.remove(tid);
+    wait_no_more(call);
+    call.refuse(e);
+}
+
 /// A waiting thread leaves the queue, as by a signal. Not enabled: it is not queued; then nothing changes.
-pub fn leaves_queue(tid: u32, queue: &mut Queue, call: &mut LxCall) -> Result<(), LxRefusal>
-    ensures ok { OnOk result (leaves_queue tid queue.old call.old ≡ Some (queue_outcome queue.new call.new)) }
-    ensures err { OnErr result (leaves_queue tid queue.old call.old ≡ None) }
+pub fn wait_given_up(
+    e: LinuxErrno,
+    tid: u32,
+    queue: &mut Queue,
+    call: &mut LxCall,
+) -> Result<(), LxRefusal>
+    ensures ok { OnOk result (wait_given_up e tid queue.old call.old ≡ Some (queue_outcome queue.new call.new)) }
+    ensures err { OnErr result (wait_given_up e tid queue.old call.old ≡ None) }
     ensures kept { OnErr result ((queue.new ≡ queue.old) × (call.new ≡ call.old)) }
     ensures no_step { IfErr result (λ e. e ≡ LxRefusal.NoStep) }
 {
     if !call.waits || !queue.has(tid) {
         return Err(LxRefusal::NoStep);
     }
-    queue.remove(tid);
-    call.waits = false;
+    leave_queue(e, tid, queue, call);
     Ok(())
 }
 
@@ -507,11 +615,8 @@ pub fn wait_expired(
     ensures kept { OnErr result ((queue.new ≡ queue.old) × (call.new ≡ call.old)) }
     ensures no_step { IfErr result (λ e. e ≡ LxRefusal.NoStep) }
 {
-    if !has_passed(clock, call.deadline) || !call.waits || !queue.has(tid) {
+    if !has_passed(clock, call.deadline) {
         return Err(LxRefusal::NoStep);
     }
-    queue.remove(tid);
-    call.refuse(LinuxErrno::ETIMEDOUT);
-    call.waits = false;
-    Ok(())
+    wait_given_up(LinuxErrno::ETIMEDOUT, tid, queue, call)
 }

@@ -1,7 +1,8 @@
-//! Futexes and time in the Linux machine: the functions that compute the definitions of `lx_machine`'s `Futex`, `Time`,
-//! `Nanosleep` and `ClockGettime`.
+//! Futexes in the Linux machine: the functions that compute the definitions of `lx_machine`'s `Futex`, `FutexPi` and
+//! `FutexWaitv`.
 #![tactic(auto)]
 
+pub mod futex_pi;
+pub mod futex_waitv;
 pub mod futexes;
-pub mod time;
 pub mod words;

@@ -12,7 +12,7 @@ use Rattle.lx_machine.specs.declared.state.LinuxState.{LinuxState}
 use Rattle.lx_laws.specs.Consoles.{AccountsFor, ConsolesAccountFor, ConsolesAccountFromTheStart, ever_put, taken_by, taken_from, taken_over}
 use Rattle.lx_laws.proofs.Apart.{some_is}
 use Rattle.lx_laws.proofs.Files.{FilesTo, Grown}
-use Rattle.lx_laws.proofs.Frame.{Changes, changes}
+use Rattle.lx_laws.proofs.Frame.{Common, common}
 use Rattle.lx_laws.proofs.Runs.{bind_some}
 
 -- bytes were put, and none taken
@@ -39,11 +39,10 @@ drained L side.Err side.Err n before a = some_taken before L.files.err L.files.p
 drained L side.Out side.Err n before a = not_taken before L.files.out L.files.put_out a
 drained L side.Err side.Out n before a = not_taken before L.files.err L.files.put_err a
 
-by_label : (L next : LinuxState) (l : Label) (which : LxSide) (before : List ℕ) → Changes L l next → AccountsFor L.files which before → AccountsFor next.files which (before ++ taken_by which L l)
+by_label : (L next : LinuxState) (l : Label) (which : LxSide) (before : List ℕ) → Common L l next → AccountsFor L.files which before → AccountsFor next.files which (before ++ taken_by which L l)
 by_label L next (label.Time t) which before h a = grown L.files next.files which before h.1 a
 by_label L next (label.Drain drains n) which before h a = subst (λ (F : Files). AccountsFor F which (before ++ taken_by which L (label.Drain drains n))) (sym h.1) (drained L which drains n before a)
-by_label L next (label.Queue s) which before h a = grown L.files next.files which before h.2.files a
-by_label L next _ which before h a = grown L.files next.files which before h.files a
+by_label L next _ which before h a = grown L.files next.files which before h.1 a
 
 pub accounts : ConsolesAccountFor
 accounts L last [] which before e a =
@@ -51,10 +50,10 @@ accounts L last [] which before e a =
 accounts L last (l ∷ ls) which before e a =
     let first = bind_some (LStep L l) (λ next. LRun next ls) last e in
     let next = first.0 in
-    let after = accounts next last ls which (before ++ taken_by which L l) first.2 (by_label L next l which before (changes L next l first.1) a) in
+    let after = accounts next last ls which (before ++ taken_by which L l) first.2 (by_label L next l which before (common L next l first.1) a) in
     after ∙ ap (λ (x : List ℕ). x ++ side_holds last.files which)
     (append_assoc before (taken_by which L l) (taken_over which next ls) ∙ ap (λ (o : Option LinuxState). before ++ (taken_by which L l ++ taken_from which o (λ n. taken_over which n ls))) (sym first.1))
 
 pub accounts_from_the_start : ConsolesAccountFromTheStart
-accounts_from_the_start image name arguments input seed ls last side.Out e = accounts (start image name arguments input seed) last ls side.Out [] e refl
-accounts_from_the_start image name arguments input seed ls last side.Err e = accounts (start image name arguments input seed) last ls side.Err [] e refl
+accounts_from_the_start image name arguments input seed rules ls last side.Out e = accounts (start image name arguments input seed rules) last ls side.Out [] e refl
+accounts_from_the_start image name arguments input seed rules ls last side.Err e = accounts (start image name arguments input seed rules) last ls side.Err [] e refl

@@ -43,12 +43,12 @@ same_if : (b : Bool) (i j : Interest) → (b ≡ true → SameName i j) → Same
 same_if true i j h = h refl
 same_if false i j h = record { file = refl; descriptor = refl }
 
-both : (a b : Bool) → (a && b) ≡ true → (a ≡ true) × (b ≡ true)
+pub both : (a b : Bool) → (a && b) ≡ true → (a ≡ true) × (b ≡ true)
 both true true e = (refl, refl)
 both true false e = absurd (cc)
 both false b e = absurd (cc)
 
-equal : (m n : ℕ) → (m == n) ≡ true → n ≡ m
+pub equal : (m n : ℕ) → (m == n) ≡ true → n ≡ m
 equal m n e = grind (arith, common_steps)
 
 in_place : (new i : Interest) → is_named new.file new.descriptor i ≡ true → SameName i new

@@ -4,6 +4,7 @@ use Rattle.std.specs.Prelude.{slice_set}
 use Rattle.linux_abi.specs.DescriptorOperation.{descriptor_operation_of}
 use Rattle.linux_abi.specs.declared.files.DescriptorOperation.{DescriptorOperation}
 use Rattle.linux_abi.specs.declared.files.DescriptorOperation.TheVariants as operation
+use Rattle.linux_abi.specs.EpollBits.{is_exclusive}
 use Rattle.linux_abi.specs.declared.epoll.EpollOperation.{EpollOperation}
 use Rattle.linux_abi.specs.declared.epoll.EpollOperation.TheVariants as change
 use Rattle.linux_abi.specs.declared.errno.LinuxErrno.{LinuxErrno}
@@ -14,7 +15,7 @@ use Rattle.lx_machine.specs.Descriptors.{FilesOutcome, lowest_from, refused_wher
 use Rattle.lx_machine.specs.Dup.{dup, dup3, dup3_of, dup3_to, dup_of, duplicate, duplicate_at}
 use Rattle.lx_machine.specs.Epoll.{are_apart, interests_in, interests_of, on_epoll}
 use Rattle.lx_machine.specs.EpollCreate.{epoll_create1, epoll_create_from, epoll_create_numbers}
-use Rattle.lx_machine.specs.EpollCtl.{asked_of, control, control_of, control_refusal, controlled, descriptor_refusals, epoll_ctl, epoll_ctl_unless, epoll_of, file_of, interest_refusals, is_add, is_exclusive, new_interest, or_else, stands_in}
+use Rattle.lx_machine.specs.EpollCtl.{asked_of, control, control_of, control_refusal, controlled, descriptor_refusals, epoll_ctl, epoll_ctl_unless, epoll_of, file_of, interest_refusals, is_add, new_interest, or_else, stands_in}
 use Rattle.lx_machine.specs.Eventfd.{eventfd, eventfd2}
 use Rattle.lx_machine.specs.Fcntl.{fcntl, fcntl_by, fcntl_of, get_status, set_status}
 use Rattle.lx_machine.specs.Interests.{is_other, stands}

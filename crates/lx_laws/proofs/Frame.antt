@@ -19,7 +19,9 @@ use Rattle.lx_machine.specs.EpollWait.{epoll_expired, epoll_held, epoll_interrup
 use Rattle.lx_machine.specs.Eventfd.{eventfd2}
 use Rattle.lx_machine.specs.Exit.{dies, exit_group, exited}
 use Rattle.lx_machine.specs.Fcntl.{fcntl}
-use Rattle.lx_machine.specs.Futex.{leaves_queue, on_queue, resumed, wait_expired}
+use Rattle.lx_machine.specs.Futex.{on_queue, resumed, wait_expired, wait_given_up, waiter}
+use Rattle.lx_machine.specs.FutexPi.{lock_expired, lock_given_up, lock_resumed, locked, on_pi_queue, unlocked}
+use Rattle.lx_machine.specs.FutexWaitv.{waitv_expired, waitv_given_up, waitv_resumed}
 use Rattle.lx_machine.specs.Instruction.{instruction, stored}
 use Rattle.lx_machine.specs.Interests.{drained_side, side_holds}
 use Rattle.lx_machine.specs.Ioctl.{ioctl}
@@ -40,7 +42,7 @@ use Rattle.lx_machine.specs.Table.{events_given_up, move_events, rules, rules_at
 use Rattle.lx_machine.specs.Threads.{InCall, OfThread, has_no_thread, in_call_of, is_user, outside_call, with_thread, without_call, without_thread}
 use Rattle.lx_machine.specs.Time.{has_passed}
 use Rattle.lx_machine.specs.Transfers.{held, hold_given_back}
-use Rattle.lx_machine.specs.Waits.{can_move, expire, gives_up, interrupt, kept_in, left_queue}
+use Rattle.lx_machine.specs.Waits.{can_move, expire, given_up_in_pi_queue, given_up_in_queue, gives_up, interrupt, kept_in, resume}
 use Rattle.lx_machine.specs.Whole.{Whole}
 use Rattle.lx_machine.specs.declared.calls.LxCall.{LxCall}
 use Rattle.lx_machine.specs.declared.calls.Stage.{Stage}
@@ -61,33 +63,44 @@ use Rattle.lx_memory.specs.declared.right.Right.TheVariants.{Read, Write}
 use Rattle.page_store.specs.Pages.{Pages}
 use Rattle.lx_laws.proofs.Results.{if_of, in_option, map_of, of_bind, of_if, of_if_at, of_map}
 use Rattle.lx_machine.specs.Futex.{after_wake_op, requeued, woken}
-use Rattle.lx_machine.specs.Queue.{QueueOutcome, is_queued}
-use Rattle.lx_machine.specs.RobustList.{marked}
+use Rattle.lx_machine.specs.Queue.{QueueOutcome}
+use Rattle.lx_machine.specs.RobustList.{futexes_of}
 use Rattle.lx_machine.specs.declared.threads.LxWaiter.{LxWaiter}
+use Rattle.lx_machine.specs.declared.threads.PiWaiter.{PiWaiter}
 use Rattle.std.proofs.Common.{sym, subst}
-use Rattle.lx_laws.proofs.Queues.{NoneNew, expired_none, leaves_none, marked_none, queued_new, released_none, requeued_none, wake_op_none}
-use Rattle.lx_laws.proofs.Results.{for_some, of_bind_at}
+use Rattle.lx_laws.specs.Callers.{IsInCall}
+use Rattle.lx_laws.proofs.Callers.{known}
+use Rattle.lx_laws.proofs.Locks as lock
+use Rattle.lx_laws.proofs.Locks.{EndedTo, GivenTo, LockedTo, SameLocks}
+use Rattle.lx_laws.proofs.Queues.{Fewer, NoneNew, OneNew, expired_none, given_up_none, many_expired_none, many_given_up_none, marked_none, none_new, queued_new, released_none, requeued_none, resumed_none, wake_op_none}
 use Rattle.lx_laws.proofs.Controls as control
 use Rattle.lx_laws.proofs.Files.{FilesTo, same}
 use Rattle.lx_laws.proofs.Moves as move
 
--- a step that isn't Time or Drain
-pub record Stay (clock : ℕ) (F : Files) (ws : List LxWaiter) (clock' : ℕ) (G : Files) (ws' : List LxWaiter) : Type 0 where
+-- a step that isn't Time or Drain, which leaves this of the futex queue and of those that wait for locks
+pub record Stay (Q : List LxWaiter → List LxWaiter → Type 0) (P : List PiWaiter → List PiWaiter → Type 0) (clock : ℕ) (F : Files) (ws : List LxWaiter) (vs : List PiWaiter) (clock' : ℕ) (G : Files) (ws' : List LxWaiter) (vs' : List PiWaiter) : Type 0 where
   pub time : clock' ≡ clock
   pub files : FilesTo F G
-  pub waiters : NoneNew ws ws'
+  pub waiters : Q ws ws'
+  pub locks : P vs vs'
+
+abbrev pub StaysBut : (List LxWaiter → List LxWaiter → Type 0) → (List PiWaiter → List PiWaiter → Type 0) → LinuxState → LinuxState → Type 0
+StaysBut Q P L next = Stay Q P L.clock L.files L.queue L.pi_queue next.clock next.files next.queue next.pi_queue
 
 abbrev pub Stays : LinuxState → LinuxState → Type 0
-Stays L next = Stay L.clock L.files L.queue next.clock next.files next.queue
+Stays L next = StaysBut NoneNew SameLocks L next
 
 stay : (L : LinuxState) → Stays L L
-stay L = record { time = refl; files = same L.files; waiters = λ tid h. h }
+stay L = record { time = refl; files = same L.files; waiters = none_new L.queue; locks = refl }
 
 with_files : (L : LinuxState) (G : Files) → FilesTo L.files G → Stays L (record L { files = G })
-with_files L G h = record { time = refl; files = h; waiters = λ tid k. k }
+with_files L G h = record { time = refl; files = h; waiters = none_new L.queue; locks = refl }
 
 with_queue : (L : LinuxState) (ws : List LxWaiter) → NoneNew L.queue ws → Stays L (record L { queue = ws })
-with_queue L ws h = record { time = refl; files = same L.files; waiters = h }
+with_queue L ws h = record { time = refl; files = same L.files; waiters = h; locks = refl }
+
+with_locks : (P : List PiWaiter → List PiWaiter → Type 0) (L : LinuxState) (vs : List PiWaiter) → P L.pi_queue vs → StaysBut NoneNew P L (record L { pi_queue = vs })
+with_locks P L vs h = record { time = refl; files = same L.files; waiters = none_new L.queue; locks = h }
 
 -- ---- what the rules of a call do
 
@@ -199,6 +212,7 @@ by_call call.Tkill = on_all_by _ (λ L mask head c. stay L)
 by_call call.Tgkill = on_all_by _ (λ L mask head c. stay L)
 by_call call.Clone = on_all_by _ (λ L mask head c. stay L)
 by_call call.RtSigaction = on_all_by _ (λ L mask head c. forgotten_stays (sigaction_forgets c) (record L { actions = sigaction_actions L.actions c }))
+by_call call.FutexWaitv = nothing
 by_call call.Nanosleep = record { effects = nothing.effects; holds = nothing.holds; moves = nothing.moves; rests = λ L c. stay L; leaves = nothing.leaves; releases = λ o c. refl }
 by_call call.EpollPwait = record {
   effects = λ L s t c. tt;
@@ -267,27 +281,32 @@ clocks : CallStays step.clock
 clocks stage.Clock L s t c = of_map (Stays L) ((rules_of c).clocked L.clock c) (in_call_of L s t) (λ c'. stay L)
 clocks _ L s t c = tt
 
--- Queue puts its own thread into the queue
-pub record Queues (clock : ℕ) (F : Files) (ws : List LxWaiter) (own : ℕ) (clock' : ℕ) (G : Files) (ws' : List LxWaiter) : Type 0 where
-  pub time : clock' ≡ clock
-  pub files : FilesTo F G
-  pub waiters : (tid : ℕ) → is_queued tid ws ≡ false → is_queued tid ws' ≡ true → tid ≡ own
+-- what is known of the thread in slot s and its call, and of a step
+abbrev pub StaysOf : LinuxState → ℕ → (Stage → ℕ → List LxWaiter → List LxWaiter → Type 0) → (Stage → ℕ → List PiWaiter → List PiWaiter → Type 0) → LinuxState → Type 0
+StaysOf L s Q P next = IsInCall L s (λ t c. StaysBut (Q (stage_of c) t.tid) (P (stage_of c) t.tid) L next)
 
-abbrev pub QueuesOwn : LinuxState → ℕ → LinuxState → Type 0
-QueuesOwn L own next = Queues L.clock L.files L.queue own next.clock next.files next.queue
+known_stays : (f : Stage → InCall) (Q : Stage → ℕ → List LxWaiter → List LxWaiter → Type 0) (P : Stage → ℕ → List PiWaiter → List PiWaiter → Type 0) →
+    ((st : Stage) (L : LinuxState) (s : ℕ) (t : LxThread) (c : LxCall) → IfSome (f st L s t c) (StaysBut (Q st t.tid) (P st t.tid) L)) → (L : LinuxState) (s : ℕ) → IfSome (in_call L s f) (StaysOf L s Q P)
+known_stays f Q P h L s =
+    known f (λ t c next. StaysBut (Q (stage_of c) t.tid) (P (stage_of c) t.tid) L next) L s (λ t c. h (stage_of c) (without_thread L s) s (without_call t) c)
 
-queues : (st : Stage) (L : LinuxState) (s : ℕ) (t : LxThread) (c : LxCall) → IfSome (step.queue st L s t c) (QueuesOwn L t.tid)
-queues (stage.Queue w) L s t c = record { time = refl; files = same L.files; waiters = queued_new L.space.pages t.tid L.queue c w }
+-- Queue puts its own place into the queue
+abbrev pub QueuedTo : Stage → ℕ → List LxWaiter → List LxWaiter → Type 0
+QueuedTo (stage.Queue w) own ws ws' = OneNew (waiter own w) ws ws'
+QueuedTo _ own ws ws' = ⊥
+
+abbrev pub NoPlaces : Stage → ℕ → List LxWaiter → List LxWaiter → Type 0
+NoPlaces st own = NoneNew
+
+abbrev pub NoLocks : Stage → ℕ → List PiWaiter → List PiWaiter → Type 0
+NoLocks st own = SameLocks
+
+abbrev pub GivenOf : Stage → ℕ → List PiWaiter → List PiWaiter → Type 0
+GivenOf st own = GivenTo st
+
+queues : (st : Stage) (L : LinuxState) (s : ℕ) (t : LxThread) (c : LxCall) → IfSome (step.queue st L s t c) (StaysBut (QueuedTo st t.tid) (NoLocks st t.tid) L)
+queues (stage.Queue w) L s t c = record { time = refl; files = same L.files; waiters = queued_new L.space.pages t.tid L.queue c w; locks = refl }
 queues _ L s t c = tt
-
-abbrev pub QueuedBy : LinuxState → ℕ → LinuxState → Type 0
-QueuedBy L s next = (t : LxThread) × (at_place L.threads s ≡ Some t) × QueuesOwn L t.tid next
-
-queues_own : (L : LinuxState) (s : ℕ) → IfSome (in_call L s step.queue) (QueuedBy L s)
-queues_own L s =
-    of_bind_at (QueuedBy L s) (at_place L.threads s) (λ t. of_call step.queue (without_thread L s) s t) (λ t at.
-    for_some (QueuesOwn L t.tid) (QueuedBy L s) (of_call step.queue (without_thread L s) s t) (λ next h. (t, at, h))
-    (of_bind (QueuesOwn L t.tid) t.call (λ c. step.queue (stage_of c) (without_thread L s) s (without_call t) c) (λ c. queues (stage_of c) (without_thread L s) s (without_call t) c)))
 
 requeues : CallStays step.requeue
 requeues (stage.Requeue r) L s t c = with_queue L (requeued L.space.pages L.queue c r).queue (requeued_none L.space.pages L.queue c r)
@@ -297,9 +316,24 @@ wake_ops : CallStays step.wake_op
 wake_ops (stage.WakeOp w) L s t c = with_queue L (after_wake_op L.space.pages L.queue c w).queue (wake_op_none L.space.pages L.queue c w)
 wake_ops _ L s t c = tt
 
-marks : CallStays step.mark
-marks (stage.Mark m) L s t c = with_queue L (marked L.space.pages t.tid L.queue m).queue (marked_none L.space.pages t.tid L.queue m)
+marks : (st : Stage) (L : LinuxState) (s : ℕ) (t : LxThread) (c : LxCall) → IfSome (step.mark st L s t c) (StaysBut (NoPlaces st t.tid) (GivenOf st t.tid) L)
+marks (stage.Mark m) L s t c = record {
+  time = refl;
+  files = same L.files;
+  waiters = marked_none L.rules L.space.pages t.tid (futexes_of L) m;
+  locks = lock.marks L.rules L.space.pages t.tid (futexes_of L) m;
+}
 marks _ L s t c = tt
+
+pi_locks : (st : Stage) (L : LinuxState) (s : ℕ) (t : LxThread) (c : LxCall) → IfSome (step.pi_lock st L s t c) (StaysBut (NoPlaces st t.tid) (LockedTo st t.tid) L)
+pi_locks (stage.PiLock l) L s t c =
+    with_locks (LockedTo (stage.PiLock l) t.tid) L (locked L.space.pages L.threads t.tid L.pi_queue c l).pi_queue (lock.locks L.space.pages L.threads t.tid L.pi_queue c l)
+pi_locks _ L s t c = tt
+
+pi_unlocks : (st : Stage) (L : LinuxState) (s : ℕ) (t : LxThread) (c : LxCall) → IfSome (step.pi_unlock st L s t c) (StaysBut (NoPlaces st t.tid) (GivenOf st t.tid) L)
+pi_unlocks (stage.PiUnlock at) L s t c =
+    with_locks (GivenTo (stage.PiUnlock at)) L (unlocked L.space.pages t.tid L.pi_queue c at).pi_queue (lock.unlocks L.space.pages t.tid L.pi_queue c at)
+pi_unlocks _ L s t c = tt
 
 releases : CallStays step.release
 releases (stage.Release w) L s t c =
@@ -307,8 +341,10 @@ releases (stage.Release w) L s t c =
     (subst (NoneNew L.queue) (sym ((of c).releases (woken L.queue c w) c)) (released_none w.at w.most w.bits L.queue))
 releases _ L s t c = tt
 
-resumes : CallStays step.resume
+resumes : CallStays resume
 resumes stage.Wait L s t c = of_map (Stays L) (resumed t.tid L.queue c) (in_call_of L s t) (λ c'. stay L)
+resumes stage.WaitMany L s t c = map_of (Fewer L.queue) (Stays L) (waitv_resumed t.tid L.queue c) (on_queue L s t) (λ o h. with_queue L o.queue h) (resumed_none t.tid L.queue c)
+resumes stage.PiWait L s t c = of_map (Stays L) (lock_resumed t.tid L.pi_queue c) (in_call_of L s t) (λ c'. stay L)
 resumes _ L s t c = tt
 
 starts : CallStays step.start
@@ -326,27 +362,35 @@ goes _ L s t c = tt
 
 -- ---- waits that end
 
-expires : CallStays expire
-expires stage.Wait L s t c = map_of (λ (o : QueueOutcome). NoneNew L.queue o.queue) (Stays L) (wait_expired L.clock t.tid L.queue c) (on_queue L s t) (λ o h. with_queue L o.queue h) (expired_none L.clock t.tid L.queue c)
+expires : (st : Stage) (L : LinuxState) (s : ℕ) (t : LxThread) (c : LxCall) → IfSome (expire st L s t c) (StaysBut (NoPlaces st t.tid) (EndedTo st t.tid) L)
+expires stage.Wait L s t c = map_of (Fewer L.queue) (Stays L) (wait_expired L.clock t.tid L.queue c) (on_queue L s t) (λ o h. with_queue L o.queue h) (expired_none L.clock t.tid L.queue c)
+expires stage.WaitMany L s t c = map_of (Fewer L.queue) (Stays L) (waitv_expired L.clock t.tid L.queue c) (on_queue L s t) (λ o h. with_queue L o.queue h) (many_expired_none L.clock t.tid L.queue c)
+expires stage.PiWait L s t c =
+    map_of (lock.Ended t.tid L.pi_queue) (StaysBut NoneNew (EndedTo stage.PiWait t.tid) L) (lock_expired L.clock t.tid L.pi_queue c) (on_pi_queue L s t) (λ o h. with_locks (EndedTo stage.PiWait t.tid) L o.pi_queue h) (lock.expired L.clock t.tid L.pi_queue c)
 expires stage.Rest L s t c = of_map (Stays L) (nanosleep_expired L.clock c) (in_call_of L s t) (λ c'. stay L)
 expires stage.Move L s t c =
     of_if (Stays L) (has_passed L.clock c.deadline && not (can_move L.files c)) (option_map (on_files L s t) (epoll_expired L.files c)) None
     (map_of (move.Leaves L.files) (Stays L) (epoll_expired L.files c) (on_files L s t) (λ o h. with_files L o.files h) (move.expires L.files c)) tt
 expires _ L s t c = tt
 
-abbrev Given : LinuxState → GivenUp → Type 0
-Given L g = Stays L g.state
+abbrev Given : Stage → ℕ → LinuxState → GivenUp → Type 0
+Given st own L g = StaysBut NoneNew (EndedTo st own) L g.state
 
-given : (st : Stage) (L : LinuxState) (t : LxThread) (c : LxCall) → IfSome (gives_up st L t c) (Given L)
-given stage.Wait L t c = map_of (λ (o : QueueOutcome). NoneNew L.queue o.queue) (Given L) (leaves_queue t.tid L.queue c) (left_queue L) (λ o h. with_queue L o.queue h) (leaves_none t.tid L.queue c)
+given : (st : Stage) (L : LinuxState) (t : LxThread) (c : LxCall) → IfSome (gives_up st L t c) (Given st t.tid L)
+given stage.Wait L t c =
+    map_of (Fewer L.queue) (Given stage.Wait t.tid L) (wait_given_up errno.EINTR t.tid L.queue c) (given_up_in_queue L) (λ o h. with_queue L o.queue h) (given_up_none errno.EINTR t.tid L.queue c)
+given stage.WaitMany L t c =
+    map_of (Fewer L.queue) (Given stage.WaitMany t.tid L) (waitv_given_up errno.EINTR t.tid L.queue c) (given_up_in_queue L) (λ o h. with_queue L o.queue h) (many_given_up_none errno.EINTR t.tid L.queue c)
+given stage.PiWait L t c =
+    map_of (lock.Ended t.tid L.pi_queue) (Given stage.PiWait t.tid L) (lock_given_up errno.EINTR t.tid L.pi_queue c) (given_up_in_pi_queue L) (λ o h. with_locks (EndedTo stage.PiWait t.tid) L o.pi_queue h) (lock.given_up errno.EINTR t.tid L.pi_queue c)
 given stage.Rest L t c = (of c).rests L c
-given stage.Move L t c = of_if (Given L) (can_move L.files c) None ((rules_of c).move_given_up L c) tt ((of c).leaves L c)
+given stage.Move L t c = of_if (Given stage.Move t.tid L) (can_move L.files c) None ((rules_of c).move_given_up L c) tt ((of c).leaves L c)
 given _ L t c = tt
 
-interrupts : (list : PendingList) (sig : LinuxSig) → CallStays (interrupt list sig)
+interrupts : (list : PendingList) (sig : LinuxSig) (st : Stage) (L : LinuxState) (s : ℕ) (t : LxThread) (c : LxCall) → IfSome (interrupt list sig st L s t c) (StaysBut (NoPlaces st t.tid) (EndedTo st t.tid) L)
 interrupts list sig st L s t c =
-    of_bind (Stays L) (found_in t.mask (listed t.pending L.pending list) sig) (λ info. option_map (kept_in s t list info) (gives_up st L t c)) (λ info.
-    map_of (Given L) (Stays L) (gives_up st L t c) (kept_in s t list info) (λ g h. record { time = h.time; files = h.files; waiters = h.waiters }) (given st L t c))
+    of_bind (StaysBut NoneNew (EndedTo st t.tid) L) (found_in t.mask (listed t.pending L.pending list) sig) (λ info. option_map (kept_in s t list info) (gives_up st L t c)) (λ info.
+    map_of (Given st t.tid L) (StaysBut NoneNew (EndedTo st t.tid) L) (gives_up st L t c) (kept_in s t list info) (λ g h. record { time = h.time; files = h.files; waiters = h.waiters; locks = h.locks }) (given st L t c))
 
 -- ---- signals
 
@@ -382,13 +426,18 @@ instructions L s =
 -- ---- a step
 
 abbrev pub Changes : LinuxState → Label → LinuxState → Type 0
-Changes L (label.Time t) next = (L.clock ≤ next.clock) × FilesTo L.files next.files × NoneNew L.queue next.queue
-Changes L (label.Drain which n) next = (next.clock ≡ L.clock) × (next.files ≡ drained_side L.files which n) × NoneNew L.queue next.queue
-Changes L (label.Queue s) next = QueuedBy L s next
+Changes L (label.Time t) next = (L.clock ≤ next.clock) × FilesTo L.files next.files × (next.queue ≡ L.queue) × (next.pi_queue ≡ L.pi_queue)
+Changes L (label.Drain which n) next = (next.clock ≡ L.clock) × (next.files ≡ drained_side L.files which n) × (next.queue ≡ L.queue) × (next.pi_queue ≡ L.pi_queue)
+Changes L (label.Queue s) next = StaysOf L s QueuedTo NoLocks next
+Changes L (label.PiLock s) next = StaysOf L s NoPlaces LockedTo next
+Changes L (label.PiUnlock s) next = StaysOf L s NoPlaces GivenOf next
+Changes L (label.Mark s) next = StaysOf L s NoPlaces GivenOf next
+Changes L (label.Expire s) next = StaysOf L s NoPlaces EndedTo next
+Changes L (label.Interrupt s list sig) next = StaysOf L s NoPlaces EndedTo next
 Changes L _ next = Stays L next
 
-set : (L : LinuxState) (t : ℕ) → nat_lt L.clock t ≡ true → (L.clock ≤ t) × FilesTo L.files L.files × NoneNew L.queue L.queue
-set L t h = (grind (arith, common_steps), same L.files, λ tid k. k)
+set : (L : LinuxState) (t : ℕ) → nat_lt L.clock t ≡ true → (L.clock ≤ t) × FilesTo L.files L.files × (L.queue ≡ L.queue) × (L.pi_queue ≡ L.pi_queue)
+set L t h = (grind (arith, common_steps), same L.files, refl, refl)
 
 pub step_changes : (L : LinuxState) (l : Label) → IfSome (step_of L l) (Changes L l)
 step_changes L (label.Instr s) = instructions L s
@@ -399,14 +448,16 @@ step_changes L (label.Drop s) = of_in_call give_back gives_back L s
 step_changes L (label.Effect s short) = of_in_call (effect short) (effects short) L s
 step_changes L (label.Move s picks) = of_in_call (step.move picks) (moves picks) L s
 step_changes L (label.Clock s) = of_in_call step.clock clocks L s
-step_changes L (label.Queue s) = queues_own L s
+step_changes L (label.Queue s) = known_stays step.queue QueuedTo NoLocks queues L s
+step_changes L (label.PiLock s) = known_stays step.pi_lock NoPlaces LockedTo pi_locks L s
+step_changes L (label.PiUnlock s) = known_stays step.pi_unlock NoPlaces GivenOf pi_unlocks L s
 step_changes L (label.Requeue s) = of_in_call step.requeue requeues L s
 step_changes L (label.WakeOp s) = of_in_call step.wake_op wake_ops L s
-step_changes L (label.Mark s) = of_in_call step.mark marks L s
+step_changes L (label.Mark s) = known_stays step.mark NoPlaces GivenOf marks L s
 step_changes L (label.Release s) = of_in_call step.release releases L s
-step_changes L (label.Resume s) = of_in_call step.resume resumes L s
-step_changes L (label.Expire s) = of_in_call expire expires L s
-step_changes L (label.Interrupt s list sig) = of_in_call (interrupt list sig) (interrupts list sig) L s
+step_changes L (label.Resume s) = of_in_call resume resumes L s
+step_changes L (label.Expire s) = known_stays expire NoPlaces EndedTo expires L s
+step_changes L (label.Interrupt s list sig) = known_stays (interrupt list sig) NoPlaces EndedTo (interrupts list sig) L s
 step_changes L (label.Start s) = of_in_call step.start starts L s
 step_changes L (label.Leave s) = of_in_call step.leave leaves L s
 step_changes L (label.Gone s) = of_in_call step.gone goes L s
@@ -416,7 +467,7 @@ step_changes L (label.Frame s) = of_thread signal_frame.frame frames L s
 step_changes L (label.Kill s) = of_thread delivery.kill kills L s
 step_changes L (label.Time t) = of_if_at (Changes L (label.Time t)) (nat_lt L.clock t) (Some (record L { clock = t })) None (set L t) (λ e. tt)
 step_changes L (label.Drain which n) =
-    of_if (Changes L (label.Drain which n)) (nat_le 1 n && nat_le n (length (side_holds L.files which))) (Some (record L { files = drained_side L.files which n })) None (refl, refl, λ tid h. h) tt
+    of_if (Changes L (label.Drain which n)) (nat_le 1 n && nat_le n (length (side_holds L.files which))) (Some (record L { files = drained_side L.files which n })) None (refl, refl, refl, refl) tt
 
 -- a guest that has ended takes no step
 pub unended : (end : Option GuestEnd) (o : Option LinuxState) (next : LinuxState) → unless_ended end o ≡ Some next → o ≡ Some next
@@ -425,3 +476,24 @@ unended (Some end) o next e = absurd (cc)
 
 pub changes : (L next : LinuxState) (l : Label) → LStep L l ≡ Some next → Changes L l next
 changes L next l e = in_option (Changes L l) (step_of L l) next (step_changes L l) (unended L.end (step_of L l) next e)
+
+-- ---- the clock and the files
+
+abbrev pub Common : LinuxState → Label → LinuxState → Type 0
+Common L (label.Time t) next = (L.clock ≤ next.clock) × FilesTo L.files next.files
+Common L (label.Drain which n) next = (next.clock ≡ L.clock) × (next.files ≡ drained_side L.files which n)
+Common L _ next = (next.clock ≡ L.clock) × FilesTo L.files next.files
+
+of_common : (L next : LinuxState) (l : Label) → Changes L l next → Common L l next
+of_common L next (label.Time t) h = (h.0, h.1)
+of_common L next (label.Drain which n) h = (h.0, h.1)
+of_common L next (label.Queue s) h = (h.holds.time, h.holds.files)
+of_common L next (label.PiLock s) h = (h.holds.time, h.holds.files)
+of_common L next (label.PiUnlock s) h = (h.holds.time, h.holds.files)
+of_common L next (label.Mark s) h = (h.holds.time, h.holds.files)
+of_common L next (label.Expire s) h = (h.holds.time, h.holds.files)
+of_common L next (label.Interrupt s list sig) h = (h.holds.time, h.holds.files)
+of_common L next _ h = (h.time, h.files)
+
+pub common : (L next : LinuxState) (l : Label) → LStep L l ≡ Some next → Common L l next
+common L next l e = of_common L next l (changes L next l e)

@@ -3,7 +3,10 @@ pub mod Apart
 pub mod Files
 pub mod Controls
 pub mod Moves
+pub mod Lists
 pub mod Queues
+pub mod Locks
+pub mod Callers
 pub mod Frame
 pub mod Runs
 pub mod Clocks
@@ -14,3 +17,6 @@ pub mod SignalTids
 pub mod Tids
 pub mod Resumes
 pub mod Enters
+pub mod Gifts
+pub mod Memory
+pub mod Returns

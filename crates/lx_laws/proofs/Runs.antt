@@ -24,5 +24,5 @@ pub kept_over_run : (P : LinuxState → Type 0) → IsKept P → (L last : Linux
 kept_over_run P kept L last ls h e = over_run (λ M N. P M → P N) (λ M k. k) (λ M next N l step later k. later (kept M next l k step)) L last ls e h
 
 pub always : (P : LinuxState → Type 0) → HoldsAtStart P → IsKept P → HoldsAlways P
-always P begins kept image name arguments input seed ls last e =
-    kept_over_run P kept (start image name arguments input seed) last ls (begins image name arguments input seed) e
+always P begins kept image name arguments input seed rules ls last e =
+    kept_over_run P kept (start image name arguments input seed rules) last ls (begins image name arguments input seed rules) e

@@ -1,5 +1,5 @@
 -- A thread keeps its tid as it takes a signal, stores a frame, or executes an instruction.
-use Rattle.std.proofs.Common.{◌≡◌, ℕ, Bool, not, List, Option, Some, None, Result, Ok, Err, IfSome, refl, if◌then◌else◌, ◌==◌, ◌%◌, pos}
+use Rattle.std.proofs.Common.{◌≡◌, ℕ, not, List, Option, Some, None, Result, Ok, Err, IfSome, refl, if◌then◌else◌, ◌==◌, ◌%◌, pos}
 use Rattle.a64_model.specs.Exec.{after, needed, next}
 use Rattle.a64_model.specs.Rows.{row}
 use Rattle.a64_model.specs.declared.access.Access.{Access}
@@ -18,6 +18,7 @@ use Rattle.lx_machine.specs.Signal.{action_of, found_in, is_ignored, listed, wit
 use Rattle.lx_machine.specs.SignalFrame as signal_frame
 use Rattle.lx_machine.specs.Threads.{is_user, trapped, with_regs}
 use Rattle.lx_machine.specs.declared.calls.LxCall.{LxCall}
+use Rattle.lx_machine.specs.declared.calls.Restart.{Restart}
 use Rattle.lx_machine.specs.declared.calls.Stage.{Stage}
 use Rattle.lx_machine.specs.declared.calls.Stage.TheVariants as stage
 use Rattle.lx_machine.specs.declared.label.PendingList.{PendingList}
@@ -55,24 +56,24 @@ takes_at_return actions t pending (Some named) = takes_pending actions (delivery
 takes_at_return actions t pending None =
     of_if (Has t.tid) (delivery.has_none_to_take (delivery.unmasked t) pending) (Some (delivery.delivery (delivery.unmasked t) pending actions delivery.no_fate)) None refl tt
 
-delivers_kept : (can_restart : Bool) (actions : List Action) (t : LxThread) (pending : List SigInfo) (info : SigInfo) (first n : ℕ) (named : Option (PendingList × LinuxSig)) → IfSome (delivery.kept_delivered can_restart actions t pending info first n named) (Has t.tid)
-delivers_kept can_restart actions t pending info first n (Some named) = tt
-delivers_kept can_restart actions t pending info first n None =
-    delivers (action_of actions info.signal) actions (delivery.out_of_call t (delivery.regs_after (delivery.starts_again can_restart (action_of actions info.signal)) t.regs first n)) pending info
+delivers_kept : (restarts_so : Restart) (actions : List Action) (t : LxThread) (pending : List SigInfo) (info : SigInfo) (first n : ℕ) (named : Option (PendingList × LinuxSig)) → IfSome (delivery.kept_delivered restarts_so actions t pending info first n named) (Has t.tid)
+delivers_kept restarts_so actions t pending info first n (Some named) = tt
+delivers_kept restarts_so actions t pending info first n None =
+    delivers (action_of actions info.signal) actions (delivery.out_of_call t (delivery.regs_after (delivery.starts_again restarts_so (action_of actions info.signal)) t.regs first n)) pending info
 
-returns_with : (can_restart : Bool) (actions : List Action) (t : LxThread) (pending : List SigInfo) (first n : ℕ) (named : Option (PendingList × LinuxSig)) (kept : Option SigInfo) → IfSome (delivery.returned can_restart actions t pending first n named kept) (Has t.tid)
-returns_with can_restart actions t pending first n named None = takes_at_return actions (delivery.out_of_call t (delivery.with_result t.regs n)) pending named
-returns_with can_restart actions t pending first n named (Some info) =
+returns_with : (restarts_so : Restart) (actions : List Action) (t : LxThread) (pending : List SigInfo) (first n : ℕ) (named : Option (PendingList × LinuxSig)) (kept : Option SigInfo) → IfSome (delivery.returned restarts_so actions t pending first n named kept) (Has t.tid)
+returns_with restarts_so actions t pending first n named None = takes_at_return actions (delivery.out_of_call t (delivery.with_result t.regs n)) pending named
+returns_with restarts_so actions t pending first n named (Some info) =
     of_if (Has t.tid) (is_ignored (action_of actions info.signal) info.signal)
-    (delivery.taken_at_return actions (delivery.out_of_call t (delivery.regs_after can_restart t.regs first n)) pending named)
-    (delivery.kept_delivered can_restart actions t pending info first n named)
-    (takes_at_return actions (delivery.out_of_call t (delivery.regs_after can_restart t.regs first n)) pending named)
-    (delivers_kept can_restart actions t pending info first n named)
+    (delivery.taken_at_return actions (delivery.out_of_call t (delivery.regs_after (delivery.may_start_again restarts_so) t.regs first n)) pending named)
+    (delivery.kept_delivered restarts_so actions t pending info first n named)
+    (takes_at_return actions (delivery.out_of_call t (delivery.regs_after (delivery.may_start_again restarts_so) t.regs first n)) pending named)
+    (delivers_kept restarts_so actions t pending info first n named)
 
-pub returns_as : (can_restart : Bool) (actions : List Action) (pending : List SigInfo) (named : Option (PendingList × LinuxSig)) (t : LxThread) (c : LxCall) (st : Stage) → IfSome (delivery.return_as can_restart actions pending named t c st) (Has t.tid)
-returns_as can_restart actions pending named t c stage.Return =
-    of_bind (Has t.tid) c.result (λ n. delivery.returned can_restart actions t pending (argument c 0) n named c.kept) (λ n. returns_with can_restart actions t pending (argument c 0) n named c.kept)
-returns_as can_restart actions pending named t c _ = tt
+pub returns_as : (restarts_so : Restart) (actions : List Action) (pending : List SigInfo) (named : Option (PendingList × LinuxSig)) (t : LxThread) (c : LxCall) (st : Stage) → IfSome (delivery.return_as restarts_so actions pending named t c st) (Has t.tid)
+returns_as restarts_so actions pending named t c stage.Return =
+    of_bind (Has t.tid) c.result (λ n. delivery.returned restarts_so actions t pending (argument c 0) n named c.kept) (λ n. returns_with restarts_so actions t pending (argument c 0) n named c.kept)
+returns_as restarts_so actions pending named t c _ = tt
 
 forces_by : (a : Action) (actions : List Action) (pages : Pages) (t : LxThread) (pending : List SigInfo) (trap : SigInfo) → Has t.tid (delivery.forced_by a actions pages t pending trap)
 forces_by a actions pages t pending trap =

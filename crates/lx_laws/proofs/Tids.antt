@@ -18,7 +18,9 @@ use Rattle.lx_machine.specs.EpollWait.{epoll_expired, epoll_held, epoll_interrup
 use Rattle.lx_machine.specs.Eventfd.{eventfd2}
 use Rattle.lx_machine.specs.Exit.{dies, exit_group, exited}
 use Rattle.lx_machine.specs.Fcntl.{fcntl}
-use Rattle.lx_machine.specs.Futex.{leaves_queue, on_queue, resumed, wait_expired}
+use Rattle.lx_machine.specs.Futex.{on_queue, resumed, wait_expired, wait_given_up}
+use Rattle.lx_machine.specs.FutexPi.{LockOutcome, PiOutcome, lock_expired, lock_given_up, lock_resumed, locked, on_lock, on_pi_queue, unlocked}
+use Rattle.lx_machine.specs.FutexWaitv.{waitv_expired, waitv_given_up, waitv_resumed}
 use Rattle.lx_machine.specs.Instruction.{instruction, stored}
 use Rattle.lx_machine.specs.Interests.{drained_side, side_holds}
 use Rattle.lx_machine.specs.Ioctl.{ioctl}
@@ -39,7 +41,7 @@ use Rattle.lx_machine.specs.Table.{events_given_up, move_events, rules, rules_at
 use Rattle.lx_machine.specs.Threads.{InCall, OfThread, has_no_thread, in_call_of, is_user, outside_call, with_thread, without_call, without_thread}
 use Rattle.lx_machine.specs.Time.{has_passed}
 use Rattle.lx_machine.specs.Transfers.{held, hold_given_back}
-use Rattle.lx_machine.specs.Waits.{can_move, expire, gives_up, interrupt, kept_in, left_queue}
+use Rattle.lx_machine.specs.Waits.{can_move, expire, given_up_in_pi_queue, given_up_in_queue, gives_up, interrupt, kept_in, resume}
 use Rattle.lx_machine.specs.Whole.{Whole}
 use Rattle.lx_machine.specs.declared.calls.LxCall.{LxCall}
 use Rattle.lx_machine.specs.declared.calls.Stage.{Stage}
@@ -73,7 +75,7 @@ use Rattle.lx_machine.specs.Instruction.{ran}
 use Rattle.lx_machine.specs.Kill.{answered_by, kill_sending, send_whole, tgkill_sending, tkill_sending}
 use Rattle.lx_machine.specs.Move.{thread_after_move}
 use Rattle.lx_machine.specs.Queue.{QueueOutcome}
-use Rattle.lx_machine.specs.RobustList.{begun, death_marked, get_robust_list, marked}
+use Rattle.lx_machine.specs.RobustList.{begun, death_marked, futexes_of, get_robust_list, marked}
 use Rattle.lx_machine.specs.Shape.{mask_of}
 use Rattle.lx_machine.specs.Sigaction.{sigaction_call}
 use Rattle.lx_machine.specs.Signal.{forgotten, forgotten_at, queued_signals}
@@ -224,8 +226,9 @@ by_call call.GetRobustList = on_all_by _ (λ L s t c. back_whole L s (with_threa
 by_call call.Kill = on_all_by _ (λ L s t c. sends (kill_sending (queued_signals (with_thread L s t).threads L.pending) c) L s t c)
 by_call call.Tkill = on_all_by _ (λ L s t c. sends (tkill_sending (with_thread L s t).threads (queued_signals (with_thread L s t).threads L.pending) c) L s t c)
 by_call call.Tgkill = on_all_by _ (λ L s t c. sends (tgkill_sending (with_thread L s t).threads (queued_signals (with_thread L s t).threads L.pending) c) L s t c)
-by_call call.Clone = on_all_by _ (λ L s t c. clones_in (place_for (with_thread L s t).threads L.next_tid) L s t c)
+by_call call.Clone = on_all_by _ (λ L s t c. clones_in (place_for L.rules (with_thread L s t).threads L.next_tid) L s t c)
 by_call call.RtSigaction = on_all_by _ (λ L s t c. forgets_all (sigaction_forgets c) (sigaction_actions L.actions c) L s t (sigaction_call L.actions c))
+by_call call.FutexWaitv = nothing
 by_call call.Nanosleep = record { effects = nothing.effects; holds = nothing.holds; moves = nothing.moves; rests = λ L c. (refl, refl); leaves = nothing.leaves }
 by_call call.EpollPwait = record {
   effects = λ L s t c. tt;
@@ -324,15 +327,31 @@ wake_ops _ L s t c = tt
 
 marks : CallLeaves step.mark
 marks (stage.Mark m) L s t c =
-    let o = marked L.space.pages t.tid L.queue m in back_after L s (after_write s o.at o.written L.threads) t.tid (with_call t (death_marked o.fault c)) (tids_written s o.at o.written L.threads) refl
+    let o = marked L.rules L.space.pages t.tid (futexes_of L) m in back_after L s (after_write s o.at o.written L.threads) t.tid (with_call t (death_marked o.fault c)) (tids_written s o.at o.written L.threads) refl
 marks _ L s t c = tt
 
 releases : CallLeaves step.release
 releases (stage.Release w) L s t c = on_queue_left L s t ((rules_of c).released (woken L.queue c w) c)
 releases _ L s t c = tt
 
-resumes : CallLeaves step.resume
+on_lock_left : (L : LinuxState) (s : ℕ) (t : LxThread) (o : LockOutcome) → Leaves L s t.tid (on_lock L s t o)
+on_lock_left L s t o = back_after L s (after_write s o.at o.written L.threads) t.tid (with_call t o.call) (tids_written s o.at o.written L.threads) refl
+
+pi_locks : CallLeaves step.pi_lock
+pi_locks (stage.PiLock l) L s t c = on_lock_left L s t (locked L.space.pages L.threads t.tid L.pi_queue c l)
+pi_locks _ L s t c = tt
+
+pi_unlocks : CallLeaves step.pi_unlock
+pi_unlocks (stage.PiUnlock at) L s t c = on_lock_left L s t (unlocked L.space.pages t.tid L.pi_queue c at)
+pi_unlocks _ L s t c = tt
+
+on_pi_queue_left : (L : LinuxState) (s : ℕ) (t : LxThread) (o : PiOutcome) → Leaves L s t.tid (on_pi_queue L s t o)
+on_pi_queue_left L s t o = back L s (with_call t o.call)
+
+resumes : CallLeaves resume
 resumes stage.Wait L s t c = of_map (Leaves L s t.tid) (resumed t.tid L.queue c) (in_call_of L s t) (λ c'. back L s (with_call t c'))
+resumes stage.WaitMany L s t c = of_map (Leaves L s t.tid) (waitv_resumed t.tid L.queue c) (on_queue L s t) (on_queue_left L s t)
+resumes stage.PiWait L s t c = of_map (Leaves L s t.tid) (lock_resumed t.tid L.pi_queue c) (in_call_of L s t) (λ c'. back L s (with_call t c'))
 resumes _ L s t c = tt
 
 child_left : (L : LinuxState) (s : ℕ) (t : LxThread) (c : LxCall) (slot : ℕ) (child : LxThread) → at_place L.threads slot ≡ Some child → Leaves L s t.tid (start_child L s t c slot child)
@@ -359,6 +378,8 @@ goes _ L s t c = tt
 
 expires : CallLeaves expire
 expires stage.Wait L s t c = of_map (Leaves L s t.tid) (wait_expired L.clock t.tid L.queue c) (on_queue L s t) (on_queue_left L s t)
+expires stage.WaitMany L s t c = of_map (Leaves L s t.tid) (waitv_expired L.clock t.tid L.queue c) (on_queue L s t) (on_queue_left L s t)
+expires stage.PiWait L s t c = of_map (Leaves L s t.tid) (lock_expired L.clock t.tid L.pi_queue c) (on_pi_queue L s t) (on_pi_queue_left L s t)
 expires stage.Rest L s t c = of_map (Leaves L s t.tid) (nanosleep_expired L.clock c) (in_call_of L s t) (λ c'. back L s (with_call t c'))
 expires stage.Move L s t c =
     of_if (Leaves L s t.tid) (has_passed L.clock c.deadline && not (can_move L.files c)) (option_map (on_files L s t) (epoll_expired L.files c)) None
@@ -366,7 +387,9 @@ expires stage.Move L s t c =
 expires _ L s t c = tt
 
 given : (st : Stage) (L : LinuxState) (t : LxThread) (c : LxCall) → IfSome (gives_up st L t c) (Same L)
-given stage.Wait L t c = of_map (Same L) (leaves_queue t.tid L.queue c) (left_queue L) (λ o. (refl, refl))
+given stage.Wait L t c = of_map (Same L) (wait_given_up errno.EINTR t.tid L.queue c) (given_up_in_queue L) (λ o. (refl, refl))
+given stage.WaitMany L t c = of_map (Same L) (waitv_given_up errno.EINTR t.tid L.queue c) (given_up_in_queue L) (λ o. (refl, refl))
+given stage.PiWait L t c = of_map (Same L) (lock_given_up errno.EINTR t.tid L.pi_queue c) (given_up_in_pi_queue L) (λ o. (refl, refl))
 given stage.Rest L t c = (of c).rests L c
 given stage.Move L t c = of_if (Same L) (can_move L.files c) None ((rules_of c).move_given_up L c) tt ((of c).leaves L c)
 given _ L t c = tt
@@ -449,7 +472,9 @@ step_keeps L (label.Requeue s) = of_in_call step.requeue requeues L s
 step_keeps L (label.WakeOp s) = of_in_call step.wake_op wake_ops L s
 step_keeps L (label.Mark s) = of_in_call step.mark marks L s
 step_keeps L (label.Release s) = of_in_call step.release releases L s
-step_keeps L (label.Resume s) = of_in_call step.resume resumes L s
+step_keeps L (label.PiLock s) = of_in_call step.pi_lock pi_locks L s
+step_keeps L (label.PiUnlock s) = of_in_call step.pi_unlock pi_unlocks L s
+step_keeps L (label.Resume s) = of_in_call resume resumes L s
 step_keeps L (label.Expire s) = of_in_call expire expires L s
 step_keeps L (label.Interrupt s list sig) = of_in_call (interrupt list sig) (interrupts list sig) L s
 step_keeps L (label.Start s) = of_in_call step.start starts L s
@@ -468,12 +493,12 @@ are_kept L next l h e = in_option (Keeps L) (step_of L l) next (step_keeps L l) 
 
 -- ---- the start
 
-one_tid : (i tid : ℕ) → at_place (Some 1000 ∷ replicate 31 None) i ≡ Some tid → (i ≡ 0) × (tid ≡ 1000)
+one_tid : (i tid : ℕ) → at_place (Some 1000 ∷ replicate 127 None) i ≡ Some tid → (i ≡ 0) × (tid ≡ 1000)
 one_tid zero tid e = (refl, sym (some_is 1000 tid e))
-one_tid (suc i) tid e = absurd (no_place 31 i tid e)
+one_tid (suc i) tid e = absurd (no_place 127 i tid e)
 
 pub begin : HoldsAtStart TidsDiffer
-begin image name arguments input seed = record {
+begin image name arguments input seed rules = record {
   differ = λ i j tid a b. (one_tid i tid (none_else i ∙ a)).0 ∙ sym (one_tid j tid (none_else j ∙ b)).0;
   below = λ i tid a. let e = (one_tid i tid (none_else i ∙ a)).1 in omega arith;
 }
@@ -482,8 +507,8 @@ begin image name arguments input seed = record {
     no_tids zero = refl
     no_tids (suc k) = ap (λ (l : List (Option ℕ)). None ∷ l) (no_tids k)
 
-    none_else : (i : ℕ) → at_place (Some 1000 ∷ replicate 31 None) i ≡ at_place (tids (start image name arguments input seed).threads) i
-    none_else i = ap (λ (l : List (Option ℕ)). at_place (Some 1000 ∷ l) i) (no_tids 31)
+    none_else : (i : ℕ) → at_place (Some 1000 ∷ replicate 127 None) i ≡ at_place (tids (start image name arguments input seed rules).threads) i
+    none_else i = ap (λ (l : List (Option ℕ)). at_place (Some 1000 ∷ l) i) (no_tids 127)
 
 pub are_always : HoldsAlways TidsDiffer
 are_always = always TidsDiffer begin are_kept

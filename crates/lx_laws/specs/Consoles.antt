@@ -44,5 +44,5 @@ ConsolesAccountFor =
 -- over a run from the start, those that the run takes
 abbrev pub ConsolesAccountFromTheStart : Type 0
 ConsolesAccountFromTheStart =
-    (image : Image) (name : List ℕ) (arguments : List (List ℕ)) (input : List ℕ) (seed : ℕ) (ls : List Label) (last : LinuxState) (which : LxSide) →
-    LRun (start image name arguments input seed) ls ≡ Some last → AccountsFor last.files which (taken_over which (start image name arguments input seed) ls)
+    (image : Image) (name : List ℕ) (arguments : List (List ℕ)) (input : List ℕ) (seed rules : ℕ) (ls : List Label) (last : LinuxState) (which : LxSide) →
+    LRun (start image name arguments input seed rules) ls ≡ Some last → AccountsFor last.files which (taken_over which (start image name arguments input seed rules) ls)

@@ -1,6 +1,9 @@
 pub mod Kept
+pub mod Callers
 pub mod Clock
 pub mod Consoles
 pub mod Interests
 pub mod Tids
 pub mod Waiters
+pub mod Locks
+pub mod Frames

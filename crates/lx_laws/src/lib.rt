@@ -7,7 +7,8 @@ ghost use Rattle.lx_laws.specs.Consoles.{ConsolesAccountFor, ConsolesAccountFrom
 ghost use Rattle.lx_laws.specs.Interests.{InterestsApart};
 ghost use Rattle.lx_laws.specs.Kept.{HoldsAlways, HoldsAtStart, IsKept};
 ghost use Rattle.lx_laws.specs.Tids.{TidsDiffer};
-ghost use Rattle.lx_laws.specs.Waiters.{OnlyQueueQueues, OnlyTheReleasedResume, ResumesOnce, TheReleasedMayResume};
+ghost use Rattle.lx_laws.specs.Locks.{OnlyPiLockWaits, OnlyTheGivenLeave};
+ghost use Rattle.lx_laws.specs.Waiters.{OnlyItsOwnQueues, OnlyQueueQueues, OnlyTheReleasedResume, ResumeAnswers, ResumedWaitsNoMore, ResumesOnce, TheReleasedMayResume};
 
 /// The clock never falls (clock_gettime(2), CLOCK_MONOTONIC): neither by a step nor over a run.
 pub fn clock_never_falls()
@@ -38,16 +39,29 @@ pub fn tids_differ()
     ensures run { HoldsAlways TidsDiffer }
 {}
 
-/// A thread comes into the futex queue by its own Queue alone (futex(2)): once it has been released, nothing puts it back, so a
-/// waiter is released at most once.
+/// A place of a thread's wait comes into the futex queue by its own Queue alone (futex(2), futex_waitv(2)): once it has been
+/// released, nothing else puts it back, so a waiter is released at most once.
 pub fn only_queue_queues()
-    ensures { OnlyQueueQueues }
+    ensures place { OnlyQueueQueues }
+    ensures thread { OnlyItsOwnQueues }
 {}
 
-/// A wait resumes exactly if it has been released (futex(2)): its call waits, and its thread stands no more in the queue. After
-/// that it has not been released, so it resumes once.
+/// A thread comes to wait for a lock that names its owner by its own PiLock of it alone (futex(2), FUTEX_LOCK_PI), and waits
+/// until the lock is given to it, as the first that waits for it, by PiUnlock or by the Mark of an owner that dies, or until
+/// its own wait ends by its deadline or a signal.
+pub fn only_pi_lock_waits()
+    ensures waits { OnlyPiLockWaits }
+    ensures given { OnlyTheGivenLeave }
+{}
+
+/// A wait resumes exactly if it has been released, or if a place of a wait in many was refused (futex(2), futex_waitv(2)): a
+/// plain wait whose thread stands no more in the queue, a wait in many places of which one has queued and stands there no more,
+/// and a wait for a lock whose thread waits for none. Its answer is 0, or of many places the least that was released, or
+/// else the refusal. After that its call waits no more, so it resumes once.
 pub fn the_released_resume_once()
     ensures only { OnlyTheReleasedResume }
     ensures each { TheReleasedMayResume }
+    ensures answer { ResumeAnswers }
+    ensures ended { ResumedWaitsNoMore }
     ensures once { ResumesOnce }
 {}

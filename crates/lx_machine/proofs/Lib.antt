@@ -1,3 +1,5 @@
 pub mod Waiters
 pub mod Places
 pub mod Steps
+pub mod ThreadTable
+pub mod Differ

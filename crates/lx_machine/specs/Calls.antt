@@ -29,6 +29,8 @@ new_call number arguments = record {
   held = None;
   deadline = None;
   waits = false;
+  queued = 0;
+  refusal = None;
   child = None;
   death = None;
   result = None;
@@ -42,6 +44,10 @@ answered c n = record c { result = Some n; pieces = []; bytes = [] }
 -- the call has this result, and these bytes to store
 abbrev pub answered_with : LxCall → ℕ → List Piece → List ℕ → LxCall
 answered_with c n pieces bytes = record c { result = Some n; pieces = pieces; bytes = bytes }
+
+-- the call waits at no futex any more
+abbrev pub waits_no_more : LxCall → LxCall
+waits_no_more c = record c { waits = false; queued = 0; refusal = None }
 
 -- the call is refused
 abbrev pub refused : LxCall → LinuxErrno → LxCall

@@ -1,6 +1,6 @@
 -- clock_gettime. Source: clock_gettime(2).
 use Rattle.std.proofs.Math.Bool.{not}
-use Rattle.std.specs.Prelude.{Bool, List, [], is_some, ℕ, ◌-◌, ◌∷◌}
+use Rattle.std.specs.Prelude.{Bool, List, [], is_some, ℕ, ◌∷◌}
 use Rattle.linux_abi.specs.ClockId.{clock_of}
 use Rattle.linux_abi.specs.declared.errno.LinuxErrno.{LinuxErrno}
 use Rattle.lx_machine.specs.Calls.{answered_with, argument, low_argument}

@@ -1,7 +1,7 @@
 -- clone. Source: clone(2), gettid(2). Which threads are made is this project's own: those that share all with their process.
 use Rattle.std.proofs.Math.Bool.{not}
 use Rattle.std.specs.Option.{option_map}
-use Rattle.std.specs.Prelude.{Bool, List, None, Option, Some, [], bit_and, drop, false, if◌then◌else◌, nat_lt, replicate, slice_set, ℕ, ◌%◌, ◌&&◌, ◌++◌, ◌+◌, ◌-◌, ◌/◌, ◌==◌, ◌^◌, ◌∷◌}
+use Rattle.std.specs.Prelude.{Bool, List, None, Option, Some, [], bit_and, drop, false, if◌then◌else◌, nat_lt, replicate, slice_set, take, ℕ, ◌%◌, ◌&&◌, ◌++◌, ◌+◌, ◌-◌, ◌/◌, ◌==◌, ◌^◌, ◌∷◌}
 use Rattle.a64_model.specs.declared.regs.Regs.{Regs}
 use Rattle.linux_abi.specs.declared.errno.LinuxErrno.{LinuxErrno}
 use Rattle.lx_machine.specs.Calls.{answered_with, argument, has_other, low_argument, refused}
@@ -120,9 +120,13 @@ pub record Cloned : Type 0 where
   pub next_tid : ℕ
   pub call : LxCall
 
+-- how many places there are for threads: 32 by the rules 1, and 128 by the rules 2
+abbrev pub place_count : ℕ → ℕ
+place_count rules = if rules == 1 then 32 else 128
+
 -- the lowest free place, if there is one, as long as there is a tid
-abbrev pub place_for : List (Option LxThread) → ℕ → Option ℕ
-place_for threads next_tid = if nat_lt last_tid next_tid then None else first_free threads
+abbrev pub place_for : ℕ → List (Option LxThread) → ℕ → Option ℕ
+place_for rules threads next_tid = if nat_lt last_tid next_tid then None else first_free (take (place_count rules) threads)
 
 abbrev pub cloned_in : List (Option LxThread) → ℕ → ℕ → LxCall → Option ℕ → Cloned
 cloned_in threads next_tid mask c None = record { threads = threads; next_tid = next_tid; call = refused c errno.EAGAIN }
@@ -133,8 +137,8 @@ cloned_in threads next_tid mask c (Some slot) = record {
 }
 
 -- clone: the lowest free place and the next tid are reserved
-abbrev pub cloned : List (Option LxThread) → ℕ → ℕ → LxCall → Cloned
-cloned threads next_tid mask c = cloned_in threads next_tid mask c (place_for threads next_tid)
+abbrev pub cloned : ℕ → List (Option LxThread) → ℕ → ℕ → LxCall → Cloned
+cloned rules threads next_tid mask c = cloned_in threads next_tid mask c (place_for rules threads next_tid)
 
 -- a store of the tid that could not be made is passed over
 abbrev pub clone_not_stored : LxCall → LxCall
@@ -186,7 +190,7 @@ abbrev pub clone_outcome : LinuxState → Cloned → Whole
 clone_outcome L o = whole (record L { threads = o.threads; next_tid = o.next_tid }) o.call
 
 abbrev pub clone_whole : LinuxState → ℕ → LxCall → Whole
-clone_whole L mask c = clone_outcome L (cloned L.threads L.next_tid mask c)
+clone_whole L mask c = clone_outcome L (cloned L.rules L.threads L.next_tid mask c)
 
 -- Start: the child that the call has reserved takes over the registers of its parent
 abbrev pub start_child : LinuxState → ℕ → LxThread → LxCall → ℕ → LxThread → LinuxState

@@ -13,6 +13,8 @@ use Rattle.lx_machine.specs.Shape.{restarts, stage_of}
 use Rattle.lx_machine.specs.Signal.{action_of, forgotten, found_in, has_signal, has_unblocked, is_ignored, listed, with_action, without_signal}
 use Rattle.lx_machine.specs.Threads.{OfThread, is_user, with_thread}
 use Rattle.lx_machine.specs.declared.calls.LxCall.{LxCall}
+use Rattle.lx_machine.specs.declared.calls.Restart.{Restart}
+use Rattle.lx_machine.specs.declared.calls.Restart.TheVariants as restart
 use Rattle.lx_machine.specs.declared.calls.Stage.{Stage}
 use Rattle.lx_machine.specs.declared.label.PendingList.{PendingList}
 use Rattle.lx_machine.specs.declared.label.PendingList.TheVariants.{Own, Shared}
@@ -138,32 +140,39 @@ taken_at_return actions t pending (Some named) = take_pending actions (unmasked 
 taken_at_return actions t pending None =
     if has_none_to_take (unmasked t) pending then Some (delivery (unmasked t) pending actions no_fate) else None
 
--- a call whose wait was ended by a signal starts again where it can and the signal's handler has SA_RESTART
-abbrev pub starts_again : Bool → Action → Bool
-starts_again can_restart a = can_restart && has_handler a.handler && restarts_calls a.flags
+-- a call whose wait was ended by a signal that is delivered by this action starts again
+abbrev pub starts_again : Restart → Action → Bool
+starts_again restart.Never a = false
+starts_again restart.AsAsked a = has_handler a.handler && restarts_calls a.flags
+starts_again restart.Always a = true
+
+-- it starts again where the signal isn't to be delivered any more
+abbrev pub may_start_again : Restart → Bool
+may_start_again restart.Never = false
+may_start_again _ = true
 
 -- a signal that is kept and is still to be delivered is delivered with the call's mask, and none is named
-abbrev pub kept_delivered : Bool → List Action → LxThread → List SigInfo → SigInfo → ℕ → ℕ → Option (PendingList × LinuxSig) → Option Delivered
-kept_delivered can_restart actions t pending info first n (Some named) = None
-kept_delivered can_restart actions t pending info first n None =
-    Some (delivered actions (out_of_call t (regs_after (starts_again can_restart (action_of actions info.signal)) t.regs first n)) pending info)
+abbrev pub kept_delivered : Restart → List Action → LxThread → List SigInfo → SigInfo → ℕ → ℕ → Option (PendingList × LinuxSig) → Option Delivered
+kept_delivered restarts_so actions t pending info first n (Some named) = None
+kept_delivered restarts_so actions t pending info first n None =
+    Some (delivered actions (out_of_call t (regs_after (starts_again restarts_so (action_of actions info.signal)) t.regs first n)) pending info)
 
 -- Return of a call with this first argument and this result. Where the signal that ended its wait isn't to be delivered any
 -- more, it starts again where it can
-abbrev pub returned : Bool → List Action → LxThread → List SigInfo → ℕ → ℕ → Option (PendingList × LinuxSig) → Option SigInfo → Option Delivered
-returned can_restart actions t pending first n named None = taken_at_return actions (out_of_call t (with_result t.regs n)) pending named
-returned can_restart actions t pending first n named (Some info) =
+abbrev pub returned : Restart → List Action → LxThread → List SigInfo → ℕ → ℕ → Option (PendingList × LinuxSig) → Option SigInfo → Option Delivered
+returned restarts_so actions t pending first n named None = taken_at_return actions (out_of_call t (with_result t.regs n)) pending named
+returned restarts_so actions t pending first n named (Some info) =
     if is_ignored (action_of actions info.signal) info.signal
-    then taken_at_return actions (out_of_call t (regs_after can_restart t.regs first n)) pending named
-    else kept_delivered can_restart actions t pending info first n named
+    then taken_at_return actions (out_of_call t (regs_after (may_start_again restarts_so) t.regs first n)) pending named
+    else kept_delivered restarts_so actions t pending info first n named
 
--- Return, of a thread whose call is at this stage; `can_restart`: the call starts again after a signal
-abbrev pub return_as : Bool → List Action → List SigInfo → Option (PendingList × LinuxSig) → LxThread → LxCall → Stage → Option Delivered
-return_as can_restart actions pending named t c stage.Return = bind c.result (λ n. returned can_restart actions t pending (argument c 0) n named c.kept)
-return_as can_restart actions pending named t c _ = None
+-- Return, of a thread whose call is at this stage; `restarts_so`: whether the call starts again after a signal
+abbrev pub return_as : Restart → List Action → List SigInfo → Option (PendingList × LinuxSig) → LxThread → LxCall → Stage → Option Delivered
+return_as restarts_so actions pending named t c stage.Return = bind c.result (λ n. returned restarts_so actions t pending (argument c 0) n named c.kept)
+return_as restarts_so actions pending named t c _ = None
 
-abbrev pub return_thread : Bool → Stage → List Action → List SigInfo → Option (PendingList × LinuxSig) → LxThread → Option Delivered
-return_thread can_restart stage actions pending named t = bind t.call (λ c. return_as can_restart actions pending named t c stage)
+abbrev pub return_thread : Restart → Stage → List Action → List SigInfo → Option (PendingList × LinuxSig) → LxThread → Option Delivered
+return_thread restarts_so stage actions pending named t = bind t.call (λ c. return_as restarts_so actions pending named t c stage)
 
 -- ---- Interrupt
 

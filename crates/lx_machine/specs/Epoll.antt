@@ -1,11 +1,12 @@
 -- Ready, Due and Answer. An interest is named by its open file and the descriptor for which it was added. Source: epoll(7).
 use Rattle.std.proofs.Math.Bool.{not}
-use Rattle.std.specs.List.{list_any}
+use Rattle.std.specs.List.{find, flat_map, list_all, list_any}
 use Rattle.std.specs.Option.{option_map}
-use Rattle.std.specs.Prelude.{Bool, List, None, Option, Some, [], bit_and, bit_or, false, if◌then◌else◌, length, nat_le, nat_lt, slice_set, true, ℕ, ◌&&◌, ◌++◌, ◌+◌, ◌-◌, ◌==◌, ◌^◌, ◌||◌, ◌∷◌}
+use Rattle.std.specs.Prelude.{Bool, List, None, Option, Some, [], bit_and, false, length, nat_le, nat_lt, slice_set, ℕ, ◌&&◌, ◌++◌, ◌==◌, ◌||◌}
+use Rattle.linux_abi.specs.EpollBits.{is_edge, wanted}
 use Rattle.lx_machine.specs.Files.{has_reader, has_writer, held_in}
-use Rattle.lx_machine.specs.Interests.{is_edge, is_named, is_picked, side_holds, stands}
-use Rattle.lx_machine.specs.Lists.{at_place, bind}
+use Rattle.lx_machine.specs.Interests.{has_name_of, is_named, is_picked, side_holds}
+use Rattle.lx_machine.specs.Lists.{at_place, bind, differ}
 use Rattle.lx_machine.specs.declared.files.Counter.{Counter}
 use Rattle.lx_machine.specs.declared.files.FileKind.{FileKind}
 use Rattle.lx_machine.specs.declared.files.Files.{Files}
@@ -13,35 +14,26 @@ use Rattle.lx_machine.specs.declared.files.Interest.{Interest}
 use Rattle.lx_machine.specs.declared.files.OpenFile.{OpenFile}
 use Rattle.lx_machine.specs.declared.label.Pick.{Pick}
 use Rattle.places.specs.Places.{bytes_of}
+use Rattle.ready_bits.specs.Ready.{console_events, counter_events, input_events, read_end_events, write_end_events}
 use Rattle.lx_machine.specs.declared.files.FileKind.TheVariants as kind
 
 -- ---- Ready
 
--- a bit, where it holds
-abbrev pub if_so : Bool → ℕ → ℕ
-if_so true bit = bit
-if_so false bit = 0
-
--- a counter has something to read above 0 (EPOLLIN), and takes 1 more below 2^64 - 2 (EPOLLOUT)
+-- what holds of a counter now, and nothing where there is none
 abbrev pub ready_counter : Option Counter → ℕ
 ready_counter None = 0
-ready_counter (Some n) = if_so (nat_lt 0 n.value) 1 + if_so (nat_lt n.value (2 ^ 64 - 2)) 4
-
--- at least 4096 bytes (PIPE_BUF) are free, in a room of which so many are taken
-abbrev pub has_space : ℕ → Bool
-has_space holds = nat_le 4096 (65536 - holds)
+ready_counter (Some n) = counter_events n.value
 
 -- what a pipe holds
 abbrev pub pipe_holds : Files → ℕ → List ℕ
 pipe_holds F p = held_in (at_place F.pipes p)
 
--- the bits that hold of an open file now: EPOLLIN 1, EPOLLOUT 4, EPOLLERR 8 where no reader is left, EPOLLHUP 16 where no
--- writer is left, as always of the input
+-- the events that hold of an open file now, as bits
 abbrev pub ready : Files → FileKind → ℕ
-ready F kind.Input = if_so (nat_lt 0 (length F.input)) 1 + 16
-ready F (kind.PipeRead p) = if_so (nat_lt 0 (length (pipe_holds F p))) 1 + if_so (not (has_writer F p)) 16
-ready F (kind.PipeWrite p) = if_so (has_space (length (pipe_holds F p))) 4 + if_so (not (has_reader F p)) 8
-ready F (kind.Console which) = if_so (has_space (length (side_holds F which))) 4
+ready F kind.Input = input_events (length F.input)
+ready F (kind.PipeRead p) = read_end_events (length (pipe_holds F p)) (has_writer F p)
+ready F (kind.PipeWrite p) = write_end_events (length (pipe_holds F p)) (has_reader F p)
+ready F (kind.Console which) = console_events (length (side_holds F which))
 ready F (kind.Counter n) = ready_counter (at_place F.counters n)
 ready F (kind.Epoll n) = 0
 
@@ -50,10 +42,6 @@ ready_at F None = 0
 ready_at F (Some f) = ready F f.kind
 
 -- ---- Due
-
--- what an interest is told of: what was asked for, EPOLLERR and EPOLLHUP
-abbrev pub wanted : ℕ → ℕ
-wanted asked = bit_or asked 24
 
 -- the bits that are reported of an open file, where these are asked for
 abbrev pub told : Files → ℕ → ℕ → ℕ
@@ -64,14 +52,13 @@ reported F i = told F i.file i.asked
 
 -- the interest is enabled, has something to report, and is armed where it is an edge
 abbrev pub is_due : Files → Interest → Bool
-is_due F i = i.enabled && (i.armed || not (is_edge i)) && not (reported F i == 0)
+is_due F i = i.enabled && (i.armed || not (is_edge i.asked)) && not (reported F i == 0)
 
 -- ---- Answer
 
 -- the interest of this name
 abbrev pub named : List Interest → Pick → Option Interest
-named [] p = None
-named (i ∷ is) p = if is_named p.file p.descriptor i then Some i else named is p
+named is p = find (is_named p.file p.descriptor) is
 
 abbrev pub is_due_interest : Files → Option Interest → Bool
 is_due_interest F None = false
@@ -79,16 +66,14 @@ is_due_interest F (Some i) = is_due F i
 
 -- each pick names a due interest
 abbrev pub are_due : Files → List Interest → List Pick → Bool
-are_due F is [] = true
-are_due F is (p ∷ ps) = is_due_interest F (named is p) && are_due F is ps
+are_due F is picks = list_all (λ p. is_due_interest F (named is p)) picks
 
 -- no interest is picked twice
 abbrev pub is_same : Pick → Pick → Bool
 is_same p q = (p.file == q.file) && (p.descriptor == q.descriptor)
 
 abbrev pub are_distinct : List Pick → Bool
-are_distinct [] = true
-are_distinct (p ∷ ps) = not (list_any (is_same p) ps) && are_distinct ps
+are_distinct picks = differ is_same picks
 
 -- an interest that is due and isn't picked
 abbrev pub is_left : Files → List Pick → Interest → Bool
@@ -106,8 +91,7 @@ event_of F None = []
 event_of F (Some i) = bytes_of (reported F i) 4 ++ bytes_of 0 4 ++ bytes_of i.«data» 8
 
 abbrev pub events : Files → List Interest → List Pick → List ℕ
-events F is [] = []
-events F is (p ∷ ps) = event_of F (named is p) ++ events F is ps
+events F is picks = flat_map (λ p. event_of F (named is p)) picks
 
 -- ---- epoll_ctl
 
@@ -136,5 +120,4 @@ on_epoll F n f = record F { epolls = slice_set F.epolls n (option_map f (at_plac
 
 -- no two interests have the same name
 abbrev pub are_apart : List Interest → Bool
-are_apart [] = true
-are_apart (i ∷ is) = not (stands i.file i.descriptor is) && are_apart is
+are_apart is = differ has_name_of is

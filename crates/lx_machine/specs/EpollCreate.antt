@@ -1,5 +1,5 @@
 -- epoll_create1. Source: epoll_create1(2).
-use Rattle.std.specs.Prelude.{Bool, List, None, Option, Some, [], false, ℕ, ◌-◌, ◌∷◌}
+use Rattle.std.specs.Prelude.{Bool, List, None, Option, Some, [], false, ℕ, ◌∷◌}
 use Rattle.linux_abi.specs.declared.errno.LinuxErrno.{LinuxErrno}
 use Rattle.lx_machine.specs.Calls.{has_other, low_argument}
 use Rattle.lx_machine.specs.Descriptors.{FilesOutcome, answers, has_cloexec, lowest_from, refuses}

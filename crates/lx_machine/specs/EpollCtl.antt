@@ -1,7 +1,8 @@
 -- epoll_ctl. Source: epoll_ctl(2).
 use Rattle.std.proofs.Math.Bool.{not}
 use Rattle.std.specs.Option.{option_map}
-use Rattle.std.specs.Prelude.{Bool, List, None, Option, Some, [], false, if◌then◌else◌, is_some, length, nat_le, nat_lt, true, ℕ, ◌%◌, ◌&&◌, ◌++◌, ◌+◌, ◌-◌, ◌/◌, ◌==◌, ◌^◌, ◌||◌, ◌∷◌}
+use Rattle.std.specs.Prelude.{Bool, List, None, Option, Some, [], false, if◌then◌else◌, is_some, length, nat_le, nat_lt, true, ℕ, ◌&&◌, ◌++◌, ◌==◌, ◌||◌, ◌∷◌}
+use Rattle.linux_abi.specs.EpollBits.{is_exclusive}
 use Rattle.linux_abi.specs.EpollOperation.{epoll_operation_of}
 use Rattle.linux_abi.specs.declared.epoll.EpollOperation.{EpollOperation}
 use Rattle.linux_abi.specs.declared.errno.LinuxErrno.{LinuxErrno}
@@ -62,10 +63,6 @@ asked_of c = fetched_number c.bytes 0 4
 
 abbrev pub data_of : LxCall → ℕ
 data_of c = fetched_number c.bytes 8 8
-
--- EPOLLEXCLUSIVE
-abbrev pub is_exclusive : ℕ → Bool
-is_exclusive asked = asked / 2 ^ 28 % 2 == 1
 
 abbrev pub is_add : Option EpollOperation → Bool
 is_add (Some operation.Add) = true

@@ -1,7 +1,7 @@
 -- epoll_pwait. Source: epoll_wait(2).
 use Rattle.std.proofs.Math.Bool.{not}
 use Rattle.std.specs.List.{list_any}
-use Rattle.std.specs.Prelude.{Bool, Err, List, None, Ok, Option, Result, Some, [], if◌then◌else◌, is_some, length, min, nat_le, nat_lt, ℕ, ◌&&◌, ◌*◌, ◌+◌, ◌-◌, ◌==◌, ◌^◌, ◌||◌, ◌∷◌, ◌≡◌}
+use Rattle.std.specs.Prelude.{Bool, List, None, Option, Result, Some, [], filter, if◌then◌else◌, is_some, length, map, min, nat_le, nat_lt, take, ℕ, ◌&&◌, ◌*◌, ◌+◌, ◌-◌, ◌==◌, ◌^◌, ◌||◌, ◌∷◌, ◌≡◌}
 use Rattle.linux_abi.specs.declared.errno.LinuxErrno.{LinuxErrno}
 use Rattle.lx_machine.specs.Answers.{Goes}
 use Rattle.lx_machine.specs.Calls.{answered, answered_with, argument, low_argument, refused}
@@ -20,7 +20,6 @@ use Rattle.lx_machine.specs.declared.files.Interest.{Interest}
 use Rattle.lx_machine.specs.declared.files.NumberedFile.{NumberedFile}
 use Rattle.lx_machine.specs.declared.label.Pick.{Pick}
 use Rattle.lx_machine.specs.declared.refusal.LxRefusal.{LxRefusal}
-use Rattle.lx_machine.specs.declared.refusal.LxRefusal.TheVariants.{NoMemory, NoStep}
 use Rattle.linux_abi.specs.declared.errno.LinuxErrno.TheVariants as errno
 use Rattle.lx_machine.specs.declared.calls.Stage.TheVariants as stage
 
@@ -126,9 +125,7 @@ abbrev pub pick_of : Interest → Pick
 pick_of i = record { file = i.file; descriptor = i.descriptor }
 
 abbrev pub first_due : Files → ℕ → List Interest → List Pick
-first_due F most [] = []
-first_due F most (i ∷ is) =
-    if nat_lt 0 most && is_due F i then (pick_of i ∷ first_due F (most - 1) is) else first_due F most is
+first_due F most is = take most (map pick_of (filter (is_due F) is))
 
 -- what the epoll that the call holds can report first
 abbrev pub first_picks : Files → LxCall → List Pick

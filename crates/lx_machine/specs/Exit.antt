@@ -1,7 +1,7 @@
 -- The end of a thread and of the guest: exit as Leave, Gone, and exit_group. Source: _exit(2), exit_group(2).
 use Rattle.lx_machine.specs.declared.death.Death.{Death}
 use Rattle.lx_machine.specs.declared.calls.Stage.{Stage}
-use Rattle.std.specs.Prelude.{None, Option, Some, if◌then◌else◌, ℕ, ◌%◌, ◌-◌}
+use Rattle.std.specs.Prelude.{None, Option, Some, if◌then◌else◌, ℕ, ◌%◌}
 use Rattle.lx_machine.specs.Calls.{low_argument}
 use Rattle.lx_machine.specs.RobustList.{begun, death_stage}
 use Rattle.lx_machine.specs.Threads.{has_no_thread, in_call_of}

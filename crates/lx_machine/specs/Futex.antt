@@ -1,26 +1,26 @@
--- futex: its words, its refusals at entry, its shape, and its steps Queue, Requeue, WakeOp, Release, Resume and Expire. Source:
--- futex(2).
+-- futex: its words, its refusals at entry, its shape, and its steps Queue, Requeue, WakeOp, Release, Resume and Expire of a plain
+-- wait. Source: futex(2).
 use Rattle.std.proofs.Math.Bool.{not}
 use Rattle.std.specs.Int.{bit_not, cast_signed, w32}
 use Rattle.std.specs.Int.Signed.{le_z, lt_z}
-use Rattle.std.specs.Option.{option_map}
-use Rattle.std.specs.Prelude.{Bool, List, None, Option, Some, [], bit_and, bit_or, bit_xor, false, if◌then◌else◌, is_some, length, nat_le, nat_lt, true, ℕ, ℤ, ◌%◌, ◌&&◌, ◌*◌, ◌++◌, ◌+◌, ◌-◌, ◌/◌, ◌==◌, ◌^◌, ◌||◌, ◌∷◌}
-use Rattle.linux_abi.specs.Call.{call_of}
+use Rattle.std.specs.Prelude.{Bool, List, None, Option, Some, [], bit_and, bit_or, bit_xor, false, if◌then◌else◌, is_some, length, min, nat_le, nat_lt, true, ℕ, ℤ, ◌%◌, ◌&&◌, ◌*◌, ◌++◌, ◌+◌, ◌-◌, ◌/◌, ◌==◌, ◌^◌, ◌||◌, ◌∷◌}
 use Rattle.linux_abi.specs.FutexOperation.{futex_operation_of}
 use Rattle.linux_abi.specs.WakeOp.{comparison_of, word_operation_of}
-use Rattle.linux_abi.specs.declared.calls.Call.{Call}
 use Rattle.linux_abi.specs.declared.errno.LinuxErrno.{LinuxErrno}
 use Rattle.linux_abi.specs.declared.futexes.Comparison.{Comparison}
 use Rattle.linux_abi.specs.declared.futexes.FutexOperation.{FutexOperation}
 use Rattle.linux_abi.specs.declared.futexes.WordOperation.{WordOperation}
-use Rattle.lx_machine.specs.Calls.{answered, argument, low_argument, refused}
+use Rattle.lx_machine.specs.Calls.{answered, argument, low_argument, refused, waits_no_more}
 use Rattle.lx_machine.specs.Pieces.{piece}
-use Rattle.lx_machine.specs.Queue.{QueueOutcome, after_requeue, all_bits, is_queued, leaving, queue_outcome, released, without_waiters_of}
+use Rattle.lx_machine.specs.Queue.{QueueOutcome, after_requeue, all_bits, is_queued, leaving, most_places, moving, queue_outcome, released, without_waiters_of}
 use Rattle.lx_machine.specs.Threads.{has_written, in_call_of}
 use Rattle.lx_machine.specs.Time.{add_time, duration, has_passed, timeout_fetched, with_deadline}
 use Rattle.lx_machine.specs.declared.calls.LxCall.{LxCall}
 use Rattle.lx_machine.specs.declared.calls.Piece.{Piece}
+use Rattle.lx_machine.specs.declared.calls.Restart.{Restart}
+use Rattle.lx_machine.specs.declared.calls.Restart.TheVariants as restart
 use Rattle.lx_machine.specs.declared.calls.Stage.{Stage}
+use Rattle.lx_machine.specs.declared.futexes.PiLock.{PiLock}
 use Rattle.lx_machine.specs.declared.futexes.Requeue.{Requeue}
 use Rattle.lx_machine.specs.declared.futexes.Wait.{Wait}
 use Rattle.lx_machine.specs.declared.futexes.Wake.{Wake}
@@ -33,7 +33,6 @@ use Rattle.lx_memory.specs.Queries.{is_allowed}
 use Rattle.lx_memory.specs.declared.right.Right.TheVariants.{Read, Write}
 use Rattle.page_store.specs.Pages.{Pages}
 use Rattle.places.specs.Places.{bytes_of, number_at}
-use Rattle.linux_abi.specs.declared.calls.Call.TheVariants as call
 use Rattle.linux_abi.specs.declared.errno.LinuxErrno.TheVariants as errno
 use Rattle.linux_abi.specs.declared.futexes.Comparison.TheVariants as comparison
 use Rattle.linux_abi.specs.declared.futexes.FutexOperation.TheVariants as operation
@@ -73,6 +72,11 @@ abbrev pub is_wait : FutexOperation → Bool
 is_wait operation.Wait = true
 is_wait operation.WaitBitset = true
 is_wait _ = false
+
+-- an operation that may wait, and then may have a timeout
+abbrev pub may_wait : FutexOperation → Bool
+may_wait operation.LockPi = true
+may_wait op = is_wait op
 
 -- an operation on two words
 abbrev pub has_second : FutexOperation → Bool
@@ -137,9 +141,9 @@ is_timed c = not (argument c 3 == 0)
 
 abbrev pub pieces_by : LxCall → Option FutexOperation → List Piece
 pieces_by c None = []
-pieces_by c (Some op) = if is_wait op && is_timed c then (piece (argument c 3) 16 ∷ []) else []
+pieces_by c (Some op) = if may_wait op && is_timed c then (piece (argument c 3) 16 ∷ []) else []
 
--- what it fetches: the timeout of a wait
+-- what it fetches: the timeout
 abbrev pub futex_pieces : LxCall → List Piece
 futex_pieces c = pieces_by c (operation_in c)
 
@@ -148,7 +152,7 @@ futex_fetched c = timeout_fetched c
 
 -- the call's wait, its wake, its requeue
 abbrev pub wait_of : LxCall → ℕ → Wait
-wait_of c bits = record { at = argument c 0; expected = low_argument c 2; bits = bits }
+wait_of c bits = record { at = argument c 0; expected = low_argument c 2; bits = bits; place = 0; many = false }
 
 abbrev pub wake_of : LxCall → ℕ → Wake
 wake_of c bits = record { at = argument c 0; most = low_argument c 2; bits = bits }
@@ -188,17 +192,31 @@ wake_op_by c (Some op) (Some compared) = stage.WakeOp (record {
 wake_op_by c (Some op) None = stage.Return
 wake_op_by c None compared = stage.Return
 
--- a wait: its deadline is set if it is timed, then it queues, and then it waits
+-- its deadline is still to be set
 abbrev pub has_time : LxCall → Bool
 has_time c = is_timed c && not (is_some c.deadline)
 
-abbrev pub wait_from : LxCall → ℕ → List Piece → Stage
-wait_from c bits (p ∷ ps) = stage.Fetch p
-wait_from c bits [] = if has_time c then stage.Clock else (if c.waits then stage.Wait else stage.Queue (wait_of c bits))
+-- a call that may wait fetches its timeout, sets its deadline, has its first step, and then it waits
+abbrev pub waiting_from : LxCall → Stage → Stage → List Piece → Stage
+waiting_from c first then_waits (p ∷ ps) = stage.Fetch p
+waiting_from c first then_waits [] = if has_time c then stage.Clock else (if c.waits then then_waits else first)
+
+abbrev pub wait_stage : LxCall → ℕ → Stage
+wait_stage c bits = waiting_from c (stage.Queue (wait_of c bits)) stage.Wait c.pieces
+
+-- a lock, which is asked for so, or tried
+abbrev pub lock_of : LxCall → Bool → PiLock
+lock_of c tries = record { at = argument c 0; tries = tries }
+
+abbrev pub lock_stage : LxCall → Stage
+lock_stage c = waiting_from c (stage.PiLock (lock_of c false)) stage.PiWait c.pieces
 
 abbrev pub futex_stage_by : LxCall → Option FutexOperation → Stage
-futex_stage_by c (Some operation.Wait) = wait_from c all_bits c.pieces
-futex_stage_by c (Some operation.WaitBitset) = wait_from c (low_argument c 5) c.pieces
+futex_stage_by c (Some operation.Wait) = wait_stage c all_bits
+futex_stage_by c (Some operation.WaitBitset) = wait_stage c (low_argument c 5)
+futex_stage_by c (Some operation.LockPi) = lock_stage c
+futex_stage_by c (Some operation.TryLockPi) = stage.PiLock (lock_of c true)
+futex_stage_by c (Some operation.UnlockPi) = stage.PiUnlock (argument c 0)
 futex_stage_by c (Some operation.Wake) = stage.Release (wake_of c all_bits)
 futex_stage_by c (Some operation.WakeBitset) = stage.Release (wake_of c (low_argument c 5))
 futex_stage_by c (Some operation.Requeue) = stage.Requeue (requeue_of c None)
@@ -210,26 +228,41 @@ futex_stage_by c None = stage.Return
 abbrev pub futex_stage : LxCall → Stage
 futex_stage c = futex_stage_by c (operation_in c)
 
--- the timeout of FUTEX_WAIT_BITSET is a time, and that of FUTEX_WAIT goes from now on
+-- the timeout of FUTEX_WAIT goes from now on, and that of the others is a time
 abbrev pub deadline_by : ℕ → LxCall → Option FutexOperation → ℕ
-deadline_by clock c (Some operation.WaitBitset) = duration c.bytes
-deadline_by clock c _ = add_time clock (duration c.bytes)
+deadline_by clock c (Some operation.Wait) = add_time clock (duration c.bytes)
+deadline_by clock c _ = duration c.bytes
 
 abbrev pub futex_clocked : ℕ → LxCall → LxCall
 futex_clocked clock c = with_deadline c (deadline_by clock c (operation_in c))
 
+-- a wait without a timeout starts again after a signal, and one for a lock always does
+abbrev pub restarts_by : LxCall → Option FutexOperation → Restart
+restarts_by c (Some operation.LockPi) = restart.Always
+restarts_by c _ = if is_timed c then restart.Never else restart.AsAsked
+
+abbrev pub futex_restarts : LxCall → Restart
+futex_restarts c = restarts_by c (operation_in c)
+
 -- ---- steps
 
 abbrev pub waiter : ℕ → Wait → LxWaiter
-waiter tid w = record { tid = tid; address = w.at; bits = w.bits }
+waiter tid w = record { tid = tid; place = w.place; many = w.many; address = w.at; bits = w.bits }
+
+-- the call whose place has queued, and whose place was refused: that is a plain wait's answer, and one for many places keeps it
+abbrev pub place_queued : LxCall → Wait → LxCall
+place_queued c w = if w.many then record c { queued = min (c.queued + 1) most_places } else record c { waits = true }
+
+abbrev pub place_refused : LxCall → Wait → LinuxErrno → LxCall
+place_refused c w e = if w.many then record c { refusal = Some e } else refused c e
 
 -- Queue, where the word is this, or may not be read
 abbrev pub queued_by : ℕ → List LxWaiter → LxCall → Wait → Option ℕ → QueueOutcome
-queued_by tid ws c w None = queue_outcome ws (refused c errno.EFAULT)
+queued_by tid ws c w None = queue_outcome ws (place_refused c w errno.EFAULT)
 queued_by tid ws c w (Some word) =
-    if word == w.expected then queue_outcome (ws ++ waiter tid w ∷ []) (record c { waits = true }) else queue_outcome ws (refused c errno.EAGAIN)
+    if word == w.expected then queue_outcome (ws ++ waiter tid w ∷ []) (place_queued c w) else queue_outcome ws (place_refused c w errno.EAGAIN)
 
--- Queue: the thread queues, unless the word is another
+-- Queue: the place queues, unless the word is another
 abbrev pub queued : Pages → ℕ → List LxWaiter → LxCall → Wait → QueueOutcome
 queued pages tid ws c w = queued_by tid ws c w (readable_word pages w.at)
 
@@ -242,7 +275,7 @@ abbrev pub requeue_releases : List LxWaiter → Requeue → ℕ
 requeue_releases ws r = length (leaving r.from r.wakes all_bits ws)
 
 abbrev pub requeue_moves : List LxWaiter → Requeue → ℕ
-requeue_moves ws r = length (leaving r.from r.moves all_bits (released r.from r.wakes all_bits ws))
+requeue_moves ws r = length (moving r.from r.moves (released r.from r.wakes all_bits ws))
 
 -- Requeue with this answer
 abbrev pub moves_on : List LxWaiter → LxCall → Requeue → ℕ → QueueOutcome
@@ -314,19 +347,18 @@ after_wake_op pages ws c w = after_wake_op_by pages ws c w (writable_word pages 
 
 -- Resume: a thread that waited and is queued no more has been released
 abbrev pub resumed : ℕ → List LxWaiter → LxCall → Option LxCall
-resumed tid ws c = if c.waits && not (is_queued tid ws) then Some (record (answered c 0) { waits = false }) else None
+resumed tid ws c = if c.waits && not (is_queued tid ws) then Some (waits_no_more (answered c 0)) else None
 
--- a waiting thread leaves the queue, if it is still there
-abbrev pub leaves_queue : ℕ → List LxWaiter → LxCall → Option QueueOutcome
-leaves_queue tid ws c =
-    if c.waits && is_queued tid ws then Some (queue_outcome (without_waiters_of tid ws) (record c { waits = false })) else None
+-- a waiting thread leaves the queue, if it is still there, and its call is refused
+abbrev pub left_queue : LinuxErrno → ℕ → List LxWaiter → LxCall → QueueOutcome
+left_queue e tid ws c = queue_outcome (without_waiters_of tid ws) (refused (waits_no_more c) e)
+
+abbrev pub wait_given_up : LinuxErrno → ℕ → List LxWaiter → LxCall → Option QueueOutcome
+wait_given_up e tid ws c = if c.waits && is_queued tid ws then Some (left_queue e tid ws c) else None
 
 -- Expire: its deadline has passed
 abbrev pub wait_expired : ℕ → ℕ → List LxWaiter → LxCall → Option QueueOutcome
-wait_expired clock tid ws c =
-    if has_passed clock c.deadline && c.waits && is_queued tid ws
-    then Some (queue_outcome (without_waiters_of tid ws) (record (refused c errno.ETIMEDOUT) { waits = false }))
-    else None
+wait_expired clock tid ws c = if has_passed clock c.deadline then wait_given_up errno.ETIMEDOUT tid ws c else None
 
 -- the state after a step on the queue
 abbrev pub on_queue : LinuxState → ℕ → LxThread → QueueOutcome → LinuxState
@@ -344,7 +376,3 @@ on_word L s t o = in_call_of (record (has_written L s o.pages o.at o.written) { 
 
 abbrev pub wake_op : WakeOp → LinuxState → ℕ → LxThread → LxCall → Option LinuxState
 wake_op w L s t c = Some (on_word L s t (after_wake_op L.space.pages L.queue c w))
-
--- Resume: a wait that was released goes on
-abbrev pub resume : LinuxState → ℕ → LxThread → LxCall → Option LinuxState
-resume L s t c = option_map (in_call_of L s t) (resumed t.tid L.queue c)

@@ -14,7 +14,6 @@ use Rattle.a64_model.specs.declared.regs.Regs.{Regs}
 use Rattle.a64_model.specs.Swaps.{has_outcome, outcome}
 use Rattle.linux_abi.specs.declared.signals.LinuxSig.{LinuxSig}
 use Rattle.lx_machine.specs.Calls.{new_call}
-use Rattle.lx_machine.specs.Lists.{with_place}
 use Rattle.lx_machine.specs.Threads.{has_written, trapped, with_call, with_regs, with_thread}
 use Rattle.lx_machine.specs.declared.calls.LxCall.{LxCall}
 use Rattle.lx_machine.specs.declared.state.LinuxState.{LinuxState}

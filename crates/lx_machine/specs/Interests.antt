@@ -3,7 +3,8 @@
 use Rattle.std.proofs.Math.Bool.{not}
 use Rattle.std.specs.List.{list_any}
 use Rattle.std.specs.Option.{option_map}
-use Rattle.std.specs.Prelude.{Bool, List, None, Option, Some, drop, false, filter, if◌then◌else◌, map, true, ℕ, ◌%◌, ◌&&◌, ◌/◌, ◌==◌, ◌^◌}
+use Rattle.std.specs.Prelude.{Bool, List, None, Option, Some, drop, false, filter, if◌then◌else◌, map, true, ℕ, ◌&&◌, ◌==◌}
+use Rattle.linux_abi.specs.EpollBits.{is_edge, is_one_shot}
 use Rattle.lx_machine.specs.Lists.{at_place}
 use Rattle.lx_machine.specs.declared.files.FileKind.{FileKind}
 use Rattle.lx_machine.specs.declared.files.Files.{Files}
@@ -19,6 +20,10 @@ use Rattle.lx_machine.specs.declared.label.LxSide.TheVariants as side
 -- the interest has this name
 abbrev pub is_named : ℕ → ℕ → Interest → Bool
 is_named file descriptor i = (i.file == file) && (i.descriptor == descriptor)
+
+-- an interest has the name of this one
+abbrev pub has_name_of : Interest → Interest → Bool
+has_name_of i = is_named i.file i.descriptor
 
 -- an interest of this name stands
 abbrev pub stands : ℕ → ℕ → List Interest → Bool
@@ -47,16 +52,9 @@ without_those_in file is = filter (is_elsewhere file) is
 
 -- ---- reports
 
--- EPOLLET and EPOLLONESHOT
-abbrev pub is_edge : Interest → Bool
-is_edge i = i.asked / 2 ^ 31 % 2 == 1
-
-abbrev pub is_one_shot : Interest → Bool
-is_one_shot i = i.asked / 2 ^ 30 % 2 == 1
-
 -- an interest that has been reported: an edge is disarmed, and one of one shot is disabled
 abbrev pub reported_once : Interest → Interest
-reported_once i = record i { armed = i.armed && not (is_edge i); enabled = i.enabled && not (is_one_shot i) }
+reported_once i = record i { armed = i.armed && not (is_edge i.asked); enabled = i.enabled && not (is_one_shot i.asked) }
 
 -- the interest is among those that are picked
 abbrev pub is_picked : List Pick → Interest → Bool

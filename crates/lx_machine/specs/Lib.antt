@@ -3,11 +3,16 @@ pub mod Lists
 pub mod Pieces
 pub mod Calls
 pub mod Threads
+pub mod ThreadTable
+pub mod Lending
 pub mod Queue
+pub mod PiQueue
 pub mod Time
 pub mod Nanosleep
 pub mod ClockGettime
 pub mod Futex
+pub mod FutexPi
+pub mod FutexWaitv
 pub mod Whole
 pub mod RobustList
 pub mod Clone

@@ -1,5 +1,7 @@
 -- Words on lists and options that the definitions share.
-use Rattle.std.specs.Prelude.{List, None, Option, Some, [], slice_get, slice_set, suc, ℕ, ◌∷◌}
+use Rattle.std.proofs.Math.Bool.{not}
+use Rattle.std.specs.List.{list_any}
+use Rattle.std.specs.Prelude.{Bool, List, None, Option, Some, [], slice_get, slice_set, suc, true, ℕ, ◌&&◌, ◌∷◌}
 
 -- what follows from a value, if there is one
 abbrev pub bind : {A B : Type 0} → Option A → (A → Option B) → Option B
@@ -27,3 +29,8 @@ first_free_from from (Some x ∷ xs) = first_free_from (suc from) xs
 -- the lowest free place
 abbrev pub first_free : {X : Type 0} → List (Option X) → Option ℕ
 first_free xs = first_free_from 0 xs
+
+-- no element is the same as one behind it
+abbrev pub differ : {X : Type 0} → (X → X → Bool) → List X → Bool
+differ same [] = true
+differ same (x ∷ xs) = not (list_any (same x) xs) && differ same xs

@@ -1,6 +1,6 @@
 -- madvise. Source: madvise(2). That the code can't be changed is this project's own.
 use Rattle.std.proofs.Math.Bool.{not}
-use Rattle.std.specs.Prelude.{Bool, List, [], if◌then◌else◌, is_some, ◌-◌, ◌/◌, ◌==◌, ◌∷◌}
+use Rattle.std.specs.Prelude.{Bool, List, [], if◌then◌else◌, is_some, ◌/◌, ◌==◌, ◌∷◌}
 use Rattle.linux_abi.specs.Advice.{advice_of}
 use Rattle.linux_abi.specs.declared.errno.LinuxErrno.{LinuxErrno}
 use Rattle.lx_machine.specs.Calls.{argument, low_argument}

@@ -1,6 +1,6 @@
 -- mmap. Source: mmap(2). That the code can't be changed, and that the highest free range is taken, is this project's own.
 use Rattle.std.proofs.Math.Bool.{not}
-use Rattle.std.specs.Prelude.{Bool, List, None, Option, Some, [], if◌then◌else◌, nat_lt, ℕ, ◌%◌, ◌&&◌, ◌*◌, ◌-◌, ◌/◌, ◌==◌, ◌||◌, ◌∷◌}
+use Rattle.std.specs.Prelude.{Bool, List, None, Option, Some, [], if◌then◌else◌, nat_lt, ℕ, ◌%◌, ◌&&◌, ◌*◌, ◌/◌, ◌==◌, ◌||◌, ◌∷◌}
 use Rattle.linux_abi.specs.declared.errno.LinuxErrno.{LinuxErrno}
 use Rattle.lx_machine.specs.Calls.{argument, low_argument}
 use Rattle.lx_machine.specs.Ranges.{SpaceOutcome, ends_above, is_unaligned_page, pages_of, rights_asked, space_changes, space_refuses, wants_execute}

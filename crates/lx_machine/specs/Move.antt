@@ -1,6 +1,6 @@
 -- Move of a transfer, its Drop and its Interrupt, and SIGPIPE. Source: read(2), write(2), pipe(7), signal(7).
 use Rattle.std.specs.Option.{option_map}
-use Rattle.std.specs.Prelude.{Bool, Err, None, Ok, Option, Result, Some, if◌then◌else◌, is_some, nat_lt, ℕ, ◌==◌, ◌≡◌}
+use Rattle.std.specs.Prelude.{Bool, Option, Result, if◌then◌else◌, is_some, nat_lt, ℕ, ◌==◌, ◌≡◌}
 use Rattle.linux_abi.specs.LinuxErrno.{answer_of}
 use Rattle.lx_machine.specs.Answers.{Goes}
 use Rattle.linux_abi.specs.declared.signals.TheConstants.{SI_USER}
@@ -15,7 +15,6 @@ use Rattle.lx_machine.specs.declared.calls.LxCall.{LxCall}
 use Rattle.lx_machine.specs.declared.files.Files.{Files}
 use Rattle.lx_machine.specs.declared.files.NumberedFile.{NumberedFile}
 use Rattle.lx_machine.specs.declared.refusal.LxRefusal.{LxRefusal}
-use Rattle.lx_machine.specs.declared.refusal.LxRefusal.TheVariants.{NoMemory, NoStep}
 use Rattle.lx_machine.specs.declared.signals.SigInfo.{SigInfo}
 use Rattle.lx_machine.specs.declared.state.LinuxState.{LinuxState}
 use Rattle.lx_machine.specs.declared.threads.LxThread.{LxThread}

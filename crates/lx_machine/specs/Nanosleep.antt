@@ -1,5 +1,5 @@
 -- nanosleep. Source: nanosleep(2).
-use Rattle.std.specs.Prelude.{List, None, Option, Some, [], if◌then◌else◌, ℕ, ◌-◌, ◌==◌, ◌∷◌}
+use Rattle.std.specs.Prelude.{List, None, Option, Some, [], if◌then◌else◌, ℕ, ◌==◌, ◌∷◌}
 use Rattle.linux_abi.specs.LinuxErrno.{answer_of}
 use Rattle.lx_machine.specs.Calls.{answered, answered_with, argument, refused}
 use Rattle.lx_machine.specs.Pieces.{piece}

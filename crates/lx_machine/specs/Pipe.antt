@@ -1,5 +1,5 @@
 -- pipe2. Source: pipe(2).
-use Rattle.std.specs.Prelude.{Bool, List, None, Option, Some, [], ℕ, ◌++◌, ◌+◌, ◌∷◌}
+use Rattle.std.specs.Prelude.{Bool, List, None, Option, Some, [], ℕ, ◌++◌, ◌∷◌}
 use Rattle.linux_abi.specs.declared.errno.LinuxErrno.{LinuxErrno}
 use Rattle.lx_machine.specs.Calls.{answered_with, argument, has_other, low_argument}
 use Rattle.lx_machine.specs.Descriptors.{FilesOutcome, files_outcome, has_cloexec, has_nonblock, refuses, second_free}

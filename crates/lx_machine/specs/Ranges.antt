@@ -1,6 +1,6 @@
 -- Words on calls on ranges of memory. Source: mmap(2), mprotect(2).
 use Rattle.std.proofs.Math.Bool.{not}
-use Rattle.std.specs.Prelude.{Bool, nat_lt, ℕ, ◌%◌, ◌*◌, ◌+◌, ◌-◌, ◌/◌, ◌==◌, ◌^◌}
+use Rattle.std.specs.Prelude.{Bool, nat_lt, ℕ, ◌%◌, ◌*◌, ◌+◌, ◌/◌, ◌==◌, ◌^◌}
 use Rattle.linux_abi.specs.declared.errno.LinuxErrno.{LinuxErrno}
 use Rattle.lx_machine.specs.Calls.{answered, refused}
 use Rattle.lx_machine.specs.Threads.{after_write, in_call_of}

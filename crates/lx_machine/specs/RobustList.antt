@@ -1,11 +1,15 @@
 -- The robust list of a thread, and its death: the walk along the list, the mark of each futex that the thread owned, its clear
 -- address, its end. Source: get_robust_list(2), set_robust_list(2), set_tid_address(2), clone(2), _exit(2).
 use Rattle.std.proofs.Math.Bool.{not}
-use Rattle.std.specs.Prelude.{Bool, List, None, Option, Some, [], bit_and, bit_or, false, if◌then◌else◌, min, nat_le, nat_lt, true, ℕ, ◌%◌, ◌&&◌, ◌*◌, ◌++◌, ◌+◌, ◌-◌, ◌/◌, ◌==◌, ◌^◌, ◌∷◌}
+use Rattle.std.specs.Option.{option_map}
+use Rattle.std.specs.Prelude.{Bool, List, None, Option, Some, [], bit_and, bit_or, false, find, if◌then◌else◌, min, nat_le, nat_lt, true, ℕ, ◌%◌, ◌&&◌, ◌*◌, ◌++◌, ◌+◌, ◌/◌, ◌==◌, ◌^◌, ◌∷◌}
 use Rattle.linux_abi.specs.declared.errno.LinuxErrno.{LinuxErrno}
 use Rattle.lx_machine.specs.Calls.{answered, answered_with, argument, low_argument, refused}
 use Rattle.lx_machine.specs.Futex.{is_unaligned_word, readable_word, with_word, writable_word}
+use Rattle.lx_machine.specs.FutexPi.{heir_word, owner}
+use Rattle.lx_machine.specs.Lists.{bind}
 use Rattle.lx_machine.specs.Pieces.{piece}
+use Rattle.lx_machine.specs.PiQueue.{first_pi, without_first_pi}
 use Rattle.lx_machine.specs.Queue.{all_bits, released}
 use Rattle.lx_machine.specs.Threads.{has_written, in_call_of, is_live}
 use Rattle.lx_machine.specs.Time.{field}
@@ -17,6 +21,7 @@ use Rattle.lx_machine.specs.declared.futexes.Mark.{Mark}
 use Rattle.lx_machine.specs.declared.state.LinuxState.{LinuxState}
 use Rattle.lx_machine.specs.declared.threads.LxThread.{LxThread}
 use Rattle.lx_machine.specs.declared.threads.LxWaiter.{LxWaiter}
+use Rattle.lx_machine.specs.declared.threads.PiWaiter.{PiWaiter}
 use Rattle.page_store.specs.Pages.{Pages}
 use Rattle.places.specs.Places.{bytes_of}
 use Rattle.linux_abi.specs.declared.errno.LinuxErrno.TheVariants as errno
@@ -36,14 +41,13 @@ abbrev pub set_robust_list : LxCall → LxCall
 set_robust_list c = answered c 0
 
 -- a live thread with this tid
-abbrev pub is_living : ℕ → LxThread → Bool
-is_living tid t = (t.tid == tid) && is_live t.life
+abbrev pub is_living : ℕ → Option LxThread → Bool
+is_living tid None = false
+is_living tid (Some t) = (t.tid == tid) && is_live t.life
 
 -- the robust list of the live thread with a tid, if there is one
 abbrev pub robust_list_of : ℕ → List (Option LxThread) → Option ℕ
-robust_list_of tid [] = None
-robust_list_of tid (None ∷ ts) = robust_list_of tid ts
-robust_list_of tid (Some t ∷ ts) = if is_living tid t then Some t.robust_head else robust_list_of tid ts
+robust_list_of tid ts = bind (find (is_living tid) ts) (option_map (λ t. t.robust_head))
 
 -- the tid 0 is the caller
 abbrev pub asked_list : List (Option LxThread) → ℕ → LxCall → Option ℕ
@@ -85,9 +89,12 @@ is_address pointer offset =
 abbrev pub has_word : ℕ → ℕ → Bool
 has_word pointer offset = is_address pointer offset && not (is_unaligned_word (word_address pointer offset))
 
--- the mark of an entry's word
+-- the mark of an entry's word, and that of the pending entry's
 abbrev pub mark_of : ℕ → ℕ → Mark
-mark_of pointer offset = record { at = word_address pointer offset; wakes = not (is_inheriting pointer) }
+mark_of pointer offset = record { at = word_address pointer offset; inherits = is_inheriting pointer; is_pending = false }
+
+abbrev pub pending_mark_of : ℕ → ℕ → Mark
+pending_mark_of pointer offset = record (mark_of pointer offset) { is_pending = true }
 
 -- ---- what comes next
 
@@ -146,7 +153,7 @@ abbrev pub stage_at : Death → DeathPlace → Stage
 stage_at d place.Head = stage.Fetch (piece d.head 24)
 stage_at d place.Next = stage.Fetch (piece (address d.entry) 8)
 stage_at d (place.Entry next) = stage.Mark (mark_of d.entry d.offset)
-stage_at d place.Pending = stage.Mark (mark_of d.pending d.offset)
+stage_at d place.Pending = stage.Mark (pending_mark_of d.pending d.offset)
 stage_at d place.Clear = stage.Store (piece d.clear_at 4)
 stage_at d place.Wake = stage.Release (record { at = d.clear_at; most = 1; bits = all_bits })
 stage_at d place.Gone = stage.Gone
@@ -206,10 +213,6 @@ death_released c = in_death c c.death (λ d. goes_to c d place.Gone)
 
 -- ---- Mark
 
--- the owner of a futex, a tid
-abbrev pub owner : ℕ → ℕ
-owner word = bit_and word 0x3fffffff
-
 -- someone waits
 abbrev pub has_waiters : ℕ → Bool
 has_waiters word = not (bit_and word 0x80000000 == 0)
@@ -218,45 +221,71 @@ has_waiters word = not (bit_and word 0x80000000 == 0)
 abbrev pub orphaned : ℕ → ℕ
 orphaned word = bit_or (bit_and word 0x80000000) 0x40000000
 
--- the pages and the queue after a Mark, whether it met a fault, and how many bytes were written from which address on
+-- the threads that wait at futexes, and those that wait for locks that name their owner
+pub record Futexes : Type 0 where
+  pub queue : List LxWaiter
+  pub pi_queue : List PiWaiter
+
+-- the pages and the waiters that are left after a Mark, whether it met a fault, and how many bytes were written from which address on
 pub record Marked : Type 0 where
   pub pages : Pages
-  pub queue : List LxWaiter
+  pub left : Futexes
   pub fault : Bool
   pub at : ℕ
   pub written : ℕ
 
-abbrev pub stays : Pages → List LxWaiter → Bool → Marked
-stays pages ws fault = record { pages = pages; queue = ws; fault = fault; at = 0; written = 0 }
+-- the word stays
+abbrev pub stays : Pages → Futexes → Bool → Marked
+stays pages fs fault = record { pages = pages; left = fs; fault = fault; at = 0; written = 0 }
 
--- a waiter is released where someone waits, and not at a futex with priority inheritance
-abbrev pub queue_after : List LxWaiter → Mark → ℕ → List LxWaiter
-queue_after ws m word = if has_waiters word && m.wakes then released m.at 1 all_bits ws else ws
+-- the word is this now
+abbrev pub becomes : Pages → Futexes → Mark → ℕ → Marked
+becomes pages fs m word = record { pages = with_word pages m.at word; left = fs; fault = false; at = m.at; written = 4 }
+
+-- one waiter at the word is released
+abbrev pub one_released : Futexes → Mark → Futexes
+one_released fs m = record fs { queue = released m.at 1 all_bits fs.queue }
+
+-- a futex is orphaned, and a waiter is released where someone waits
+abbrev pub orphans : Pages → Futexes → Mark → ℕ → Marked
+orphans pages fs m word = becomes pages (if has_waiters word then one_released fs m else fs) m (orphaned word)
+
+-- a lock that names its owner goes to the first that waits for it, and is orphaned where nobody does
+abbrev pub hands_over : Pages → Futexes → Mark → ℕ → Option PiWaiter → Marked
+hands_over pages fs m word None = becomes pages fs m (orphaned word)
+hands_over pages fs m word (Some w) =
+    becomes pages (record fs { pi_queue = without_first_pi m.at fs.pi_queue }) m (heir_word true m.at fs.pi_queue w)
 
 -- the word of the thread itself, where it is this, or may not be written
-abbrev pub owned : Pages → List LxWaiter → Mark → Option ℕ → Marked
-owned pages ws m None = stays pages ws true
-owned pages ws m (Some word) = record {
-  pages = with_word pages m.at (orphaned word);
-  queue = queue_after ws m word;
-  fault = false;
-  at = m.at;
-  written = 4;
-}
+abbrev pub owned : Pages → Futexes → Mark → Option ℕ → Marked
+owned pages fs m None = stays pages fs true
+owned pages fs m (Some word) = if m.inherits then hands_over pages fs m word (first_pi m.at fs.pi_queue) else orphans pages fs m word
+
+-- by the rules 2 the pending entry's word of 0: the thread has given the futex back, and may not have woken anyone yet
+abbrev pub is_given_back : ℕ → Mark → ℕ → Bool
+is_given_back rules m word = (rules == 2) && m.is_pending && not m.inherits && (word == 0)
+
+abbrev pub not_owned : ℕ → Pages → Futexes → Mark → ℕ → Marked
+not_owned rules pages fs m word = stays pages (if is_given_back rules m word then one_released fs m else fs) false
 
 -- the word, where it is this, or may not be read
-abbrev pub marked_by : Pages → ℕ → List LxWaiter → Mark → Option ℕ → Marked
-marked_by pages tid ws m None = stays pages ws true
-marked_by pages tid ws m (Some word) =
-    if owner word == tid then owned pages ws m (writable_word pages m.at) else stays pages ws false
+abbrev pub marked_by : ℕ → Pages → ℕ → Futexes → Mark → Option ℕ → Marked
+marked_by rules pages tid fs m None = stays pages fs true
+marked_by rules pages tid fs m (Some word) =
+    if owner word == tid then owned pages fs m (writable_word pages m.at) else not_owned rules pages fs m word
 
--- Mark: a word that the thread owns is orphaned, and any other stays
-abbrev pub marked : Pages → ℕ → List LxWaiter → Mark → Marked
-marked pages tid ws m = marked_by pages tid ws m (readable_word pages m.at)
+-- Mark: a word that the thread owns is orphaned or handed over, and any other stays
+abbrev pub marked : ℕ → Pages → ℕ → Futexes → Mark → Marked
+marked rules pages tid fs m = marked_by rules pages tid fs m (readable_word pages m.at)
+
+-- all that wait
+abbrev pub futexes_of : LinuxState → Futexes
+futexes_of L = record { queue = L.queue; pi_queue = L.pi_queue }
 
 -- Mark of a futex that the dying thread may own
 abbrev pub has_marked : LinuxState → ℕ → LxThread → LxCall → Marked → LinuxState
-has_marked L s t c m = in_call_of (record (has_written L s m.pages m.at m.written) { queue = m.queue }) s t (death_marked m.fault c)
+has_marked L s t c m =
+    in_call_of (record (has_written L s m.pages m.at m.written) { queue = m.left.queue; pi_queue = m.left.pi_queue }) s t (death_marked m.fault c)
 
 abbrev pub mark : Mark → LinuxState → ℕ → LxThread → LxCall → Option LinuxState
-mark m L s t c = Some (has_marked L s t c (marked L.space.pages t.tid L.queue m))
+mark m L s t c = Some (has_marked L s t c (marked L.rules L.space.pages t.tid (futexes_of L) m))

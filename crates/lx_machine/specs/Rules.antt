@@ -1,7 +1,7 @@
 -- What is told of a call: what refuses it at its entry, what it fetches first, what it does next, and what its steps do. Most calls
 -- are refused by nothing, fetch nothing and have one effect. Source: syscall(2); the manual page of each call.
 use Rattle.std.specs.Option.{option_map}
-use Rattle.std.specs.Prelude.{Bool, List, None, Option, Some, [], false, ℕ, ◌∷◌}
+use Rattle.std.specs.Prelude.{Bool, List, None, Option, Some, [], ℕ, ◌∷◌}
 use Rattle.linux_abi.specs.declared.errno.LinuxErrno.{LinuxErrno}
 use Rattle.linux_abi.specs.declared.errno.LinuxErrno.TheVariants as errno
 use Rattle.lx_machine.specs.Calls.{refused}
@@ -14,6 +14,8 @@ use Rattle.lx_machine.specs.Transfers.{TransferOutcome, held}
 use Rattle.lx_machine.specs.Whole.{Whole, put_whole}
 use Rattle.lx_machine.specs.declared.calls.LxCall.{LxCall}
 use Rattle.lx_machine.specs.declared.calls.Piece.{Piece}
+use Rattle.lx_machine.specs.declared.calls.Restart.{Restart}
+use Rattle.lx_machine.specs.declared.calls.Restart.TheVariants as restart
 use Rattle.lx_machine.specs.declared.calls.Stage.{Stage}
 use Rattle.lx_machine.specs.declared.calls.Stage.TheVariants as stage
 use Rattle.lx_machine.specs.declared.files.Files.{Files}
@@ -53,7 +55,7 @@ given_up L c = record { state = L; call = c }
 -- `not_written`: the call after a piece was stored, and one whose piece can't be written; `effect`, `short`: Effect, and Effect
 -- where memory runs short; `clocked`: Clock at this time; `hold`, `move`, `can_move`: Hold, Move, and whether Move has a step;
 -- `released`: Release, which has left this of the queue and of the call; `rest_given_up`, `move_given_up`: a rest, and a wait at
--- a file, that a signal ends; `restarts`: after that it starts again
+-- a file, that a signal ends; `restarts`: whether after that it starts again
 pub record Rules : Type 0 where
   pub refusals : LxCall → List (Bool × LinuxErrno)
   pub pieces : ℕ → LxCall → List Piece
@@ -72,7 +74,7 @@ pub record Rules : Type 0 where
   pub released : QueueOutcome → LxCall → QueueOutcome
   pub rest_given_up : LinuxState → LxCall → GivenUp
   pub move_given_up : LinuxState → LxCall → Option GivenUp
-  pub restarts : LxCall → Bool
+  pub restarts : LxCall → Restart
 
 -- what a call leaves of memory where memory runs short
 abbrev pub short_outcome : Rules → Space → LxCall → Option SpaceOutcome
@@ -114,5 +116,5 @@ plain = record {
   released = λ o c. o;
   rest_given_up = λ L c. given_up L (refused c errno.EINTR);
   move_given_up = transfer_given_up;
-  restarts = λ c. false;
+  restarts = λ c. restart.Never;
 }

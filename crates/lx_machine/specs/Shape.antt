@@ -1,12 +1,13 @@
 -- Shape: how SVC enters a call, and what the call does then, one thing after the other. Source: syscall(2); the manual page of
 -- each call.
-use Rattle.std.specs.Prelude.{Bool, None, Option, Some, ℕ}
+use Rattle.std.specs.Prelude.{None, Option, Some, ℕ}
 use Rattle.linux_abi.specs.declared.errno.LinuxErrno.{LinuxErrno}
 use Rattle.lx_machine.specs.Calls.{answered_stage, first_refusal, refused}
 use Rattle.lx_machine.specs.Clone.{birth_stage}
 use Rattle.lx_machine.specs.Rules.{Rules}
 use Rattle.lx_machine.specs.Table.{rules_of}
 use Rattle.lx_machine.specs.declared.calls.LxCall.{LxCall}
+use Rattle.lx_machine.specs.declared.calls.Restart.{Restart}
 use Rattle.lx_machine.specs.declared.calls.Stage.{Stage}
 
 -- ---- SVC: the first refusal that holds answers the call at once
@@ -56,6 +57,7 @@ written c = (rules_of c).written c
 abbrev pub not_written : LxCall → LxCall
 not_written c = (rules_of c).not_written c
 
--- it starts again after a signal has ended its wait: a transfer that has moved nothing, and a futex wait without a timeout
-abbrev pub restarts : LxCall → Bool
+-- whether it starts again after a signal has ended its wait: a transfer that has moved nothing and a futex wait without a timeout
+-- where the signal's handler asks for it, and a wait for a lock always
+abbrev pub restarts : LxCall → Restart
 restarts c = (rules_of c).restarts c

@@ -1,7 +1,7 @@
 -- Signals: actions, pending lists, what is sent to them and what is forgotten, and MayTake. Source: signal(7), sigaction(2),
 -- sigqueue(3).
 use Rattle.std.proofs.Math.Bool.{not}
-use Rattle.std.specs.List.{count_by, find, list_any, position, sum_by}
+use Rattle.std.specs.List.{after_first, before_first, count_by, find, fold, list_any, position, sum_by}
 use Rattle.std.specs.Prelude.{Bool, List, None, Option, Some, [], bit_or, false, filter, if◌then◌else◌, length, map, nat_lt, slice_index_or, slice_set, ℕ, ℤ, ◌%◌, ◌&&◌, ◌++◌, ◌+◌, ◌-◌, ◌/◌, ◌==◌, ◌^◌, ◌||◌, ◌∷◌}
 use Rattle.linux_abi.specs.LinuxSig.{is_dropped_by_default, is_real_time, linux_bit, signal_number}
 use Rattle.linux_abi.specs.SigAction.{is_default, is_ignore}
@@ -23,10 +23,13 @@ use Rattle.lx_machine.specs.declared.threads.LxThread.{LxThread}
 abbrev pub has_signal : ℕ → LinuxSig → Bool
 has_signal set s = set / 2 ^ linux_bit s % 2 == 1
 
+-- the set with this signal too
+abbrev pub with_bit : ℕ → SigInfo → ℕ
+with_bit set info = bit_or set (2 ^ linux_bit info.signal)
+
 -- the set of the signals of a list
 abbrev pub set_of : List SigInfo → ℕ
-set_of [] = 0
-set_of (info ∷ infos) = bit_or (2 ^ linux_bit info.signal) (set_of infos)
+set_of infos = fold with_bit 0 infos
 
 -- ---- actions
 
@@ -73,8 +76,7 @@ first_info s infos = find (is_of s) infos
 
 -- the list without that one
 abbrev pub without_signal : LinuxSig → List SigInfo → List SigInfo
-without_signal s [] = []
-without_signal s (info ∷ infos) = if is_of s info then infos else (info ∷ without_signal s infos)
+without_signal s infos = before_first (is_of s) infos ++ after_first (is_of s) infos
 
 -- the list without any signal of this number
 abbrev pub without_all : LinuxSig → List SigInfo → List SigInfo

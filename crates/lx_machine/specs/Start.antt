@@ -1,4 +1,4 @@
--- Start(image, args, input, seed): the state in which a program starts. Source: execve(2), ELF-64; the stack's size, the
+-- Start(image, args, input, seed, rules): the state in which a program starts. Source: execve(2), ELF-64; the stack's size, the
 -- return code above it, and that the code is readable are this project's own.
 use Rattle.std.specs.Prelude.{List, None, Option, Some, [], false, max, replicate, true, ℕ, ◌*◌, ◌++◌, ◌+◌, ◌-◌, ◌/◌, ◌||◌, ◌∷◌}
 use Rattle.a64_model.specs.declared.regs.Regs.{Regs}
@@ -91,9 +91,9 @@ first_descriptor file = Some record { file = file; close_on_exec = false }
 abbrev pub first_files : List ℕ → Files
 first_files input = record {
   descriptors = first_descriptor 0 ∷ first_descriptor 1 ∷ first_descriptor 2 ∷ replicate 253 None;
-  files = first_file kind.Input ∷ first_file (kind.Console side.Out) ∷ first_file (kind.Console side.Err) ∷ replicate 285 None;
+  files = first_file kind.Input ∷ first_file (kind.Console side.Out) ∷ first_file (kind.Console side.Err) ∷ replicate 381 None;
   pipes = replicate 64 None;
-  counters = replicate 288 None;
+  counters = replicate 384 None;
   epolls = replicate 32 None;
   input = input;
   out = [];
@@ -126,11 +126,13 @@ first_thread regs = record {
   call = None;
 }
 
-abbrev pub start : Image → List ℕ → List (List ℕ) → List ℕ → ℕ → LinuxState
-start image name arguments input seed = record {
-  threads = Some (first_thread (first_regs image name arguments)) ∷ replicate 31 None;
+abbrev pub start : Image → List ℕ → List (List ℕ) → List ℕ → ℕ → ℕ → LinuxState
+start image name arguments input seed rules = record {
+  rules = rules;
+  threads = Some (first_thread (first_regs image name arguments)) ∷ replicate 127 None;
   space = first_space image name arguments seed;
   queue = [];
+  pi_queue = [];
   files = first_files input;
   actions = replicate 64 default_action;
   pending = [];

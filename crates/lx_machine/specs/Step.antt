@@ -6,6 +6,7 @@ use Rattle.lx_machine.specs.Clone as clone
 use Rattle.lx_machine.specs.Delivery as delivery
 use Rattle.lx_machine.specs.Exit as exit
 use Rattle.lx_machine.specs.Futex as futex
+use Rattle.lx_machine.specs.FutexPi as futex_pi
 use Rattle.lx_machine.specs.Instruction.{instruction, stored}
 use Rattle.lx_machine.specs.Interests.{drained_side, side_holds}
 use Rattle.lx_machine.specs.Lists.{at_place, bind}
@@ -131,9 +132,13 @@ abbrev pub release : Stage → InCall
 release (stage.Release w) L s t c = waits.release w L s t c
 release _ L s t c = None
 
-abbrev pub resume : Stage → InCall
-resume stage.Wait L s t c = futex.resume L s t c
-resume _ L s t c = None
+abbrev pub pi_lock : Stage → InCall
+pi_lock (stage.PiLock l) L s t c = futex_pi.pi_lock l L s t c
+pi_lock _ L s t c = None
+
+abbrev pub pi_unlock : Stage → InCall
+pi_unlock (stage.PiUnlock at) L s t c = futex_pi.pi_unlock at L s t c
+pi_unlock _ L s t c = None
 
 abbrev pub start : Stage → InCall
 start stage.Start L s t c = clone.start L s t c
@@ -171,7 +176,9 @@ step_of L (label.Requeue s) = in_call L s requeue
 step_of L (label.WakeOp s) = in_call L s wake_op
 step_of L (label.Mark s) = in_call L s mark
 step_of L (label.Release s) = in_call L s release
-step_of L (label.Resume s) = in_call L s resume
+step_of L (label.PiLock s) = in_call L s pi_lock
+step_of L (label.PiUnlock s) = in_call L s pi_unlock
+step_of L (label.Resume s) = in_call L s waits.resume
 step_of L (label.Expire s) = in_call L s waits.expire
 step_of L (label.Interrupt s list sig) = in_call L s (waits.interrupt list sig)
 step_of L (label.Start s) = in_call L s start

@@ -1,13 +1,12 @@
 -- The table of calls: the rules of each, by its number. Source: the manual page of each call.
-use Rattle.std.specs.Prelude.{Bool, List, None, Option, Some, [], true, ℕ, ◌∷◌}
-use Rattle.std.proofs.Math.Bool.{not}
+use Rattle.std.specs.Prelude.{Bool, List, None, Option, Some, [], false, true, ℕ, ◌∷◌}
 use Rattle.std.specs.Option.{option_map}
 use Rattle.linux_abi.specs.Call.{call_of}
 use Rattle.linux_abi.specs.declared.calls.Call.{Call}
 use Rattle.linux_abi.specs.declared.calls.Call.TheVariants as call
 use Rattle.linux_abi.specs.declared.errno.LinuxErrno.TheVariants as errno
 use Rattle.lx_machine.specs.Brk.{brk}
-use Rattle.lx_machine.specs.Calls.{answered, refused}
+use Rattle.lx_machine.specs.Calls.{answered}
 use Rattle.lx_machine.specs.ClockGettime.{clock_gettime_clocked, clock_gettime_refusals, clock_gettime_stage}
 use Rattle.lx_machine.specs.Clone.{clone_not_stored, clone_refusals, clone_stage, clone_whole}
 use Rattle.lx_machine.specs.Close.{close}
@@ -19,7 +18,8 @@ use Rattle.lx_machine.specs.EpollWait.{epoll_can_move, epoll_held, epoll_interru
 use Rattle.lx_machine.specs.Eventfd.{eventfd2, eventfd_refusals}
 use Rattle.lx_machine.specs.Exit.{exit_group, exit_stage}
 use Rattle.lx_machine.specs.Fcntl.{fcntl}
-use Rattle.lx_machine.specs.Futex.{futex_clocked, futex_fetched, futex_pieces, futex_refusals, futex_stage, is_timed}
+use Rattle.lx_machine.specs.Futex.{futex_clocked, futex_fetched, futex_pieces, futex_refusals, futex_restarts, futex_stage}
+use Rattle.lx_machine.specs.FutexWaitv.{waitv_clocked, waitv_fetched, waitv_pieces, waitv_refusals, waitv_restarts, waitv_stage}
 use Rattle.lx_machine.specs.Getpid.{own_id}
 use Rattle.lx_machine.specs.Ioctl.{ioctl}
 use Rattle.lx_machine.specs.Kill.{kill_refusals, kill_sending, send_whole, tgkill_refusals, tgkill_sending, tkill_refusals, tkill_sending}
@@ -53,6 +53,8 @@ use Rattle.lx_machine.specs.Uname.{uname}
 use Rattle.lx_machine.specs.Whole.{whole}
 use Rattle.lx_machine.specs.Write.{write_stage}
 use Rattle.lx_machine.specs.declared.calls.LxCall.{LxCall}
+use Rattle.lx_machine.specs.declared.calls.Restart.{Restart}
+use Rattle.lx_machine.specs.declared.calls.Restart.TheVariants as restart
 use Rattle.lx_machine.specs.declared.calls.Stage.TheVariants as stage
 use Rattle.lx_machine.specs.declared.label.Pick.{Pick}
 use Rattle.lx_machine.specs.declared.space.Space.{Space}
@@ -78,6 +80,12 @@ move_events picks L s t c = option_map (on_files L s t) (epoll_moved L.files c p
 
 abbrev pub events_given_up : LinuxState → LxCall → Option GivenUp
 events_given_up L c = option_map (λ o. given_up (record L { files = o.files }) o.call) (epoll_interrupted L.files c)
+
+-- ---- a transfer starts again where the handler of the signal asks for it
+
+abbrev pub as_asked : Bool → Restart
+as_asked true = restart.AsAsked
+as_asked false = restart.Never
 
 -- ---- calls that answer ENOMEM where memory runs short
 
@@ -108,21 +116,21 @@ rules call.Ioctl = record plain { effect = OnFiles ioctl }
 rules call.Close = record plain { effect = OnFiles close }
 rules call.Pipe2 = record plain { refusals = pipe_refusals; effect = OnFiles pipe2 }
 rules call.Lseek = record plain { effect = OnFiles lseek }
-rules call.Read = record plain { pieces = λ sp. transfer_pieces; stage = λ c. read_stage c c.held; restarts = may_restart }
-rules call.Write = record plain { pieces = λ sp. transfer_pieces; stage = λ c. write_stage c c.held; restarts = may_restart }
+rules call.Read = record plain { pieces = λ sp. transfer_pieces; stage = λ c. read_stage c c.held; restarts = λ c. as_asked (may_restart c) }
+rules call.Write = record plain { pieces = λ sp. transfer_pieces; stage = λ c. write_stage c c.held; restarts = λ c. as_asked (may_restart c) }
 rules call.Readv = record plain {
   refusals = vector_refusals;
   pieces = λ sp. vector_pieces;
   stage = λ c. readv_stage c c.held;
   fetched = vectors_fetched;
-  restarts = may_restart;
+  restarts = λ c. as_asked (may_restart c);
 }
 rules call.Writev = record plain {
   refusals = vector_refusals;
   pieces = λ sp. vector_pieces;
   stage = λ c. write_stage c c.held;
   fetched = vectors_fetched;
-  restarts = may_restart;
+  restarts = λ c. as_asked (may_restart c);
 }
 rules call.Exit = record plain {
   stage = λ c. exit_stage c.death;
@@ -140,7 +148,7 @@ rules call.Futex = record plain {
   stage = futex_stage;
   fetched = futex_fetched;
   clocked = λ clock c. Some (futex_clocked clock c);
-  restarts = λ c. not (is_timed c);
+  restarts = futex_restarts;
 }
 rules call.SetRobustList = record plain {
   refusals = set_robust_list_refusals;
@@ -224,6 +232,14 @@ rules call.Clone = record plain {
 rules call.Mmap = record plain { refusals = mmap_refusals; effect = OnSpace mmap; short = lacks_memory }
 rules call.Mprotect = record plain { refusals = mprotect_refusals; effect = OnSpace mprotect; short = lacks_memory }
 rules call.Madvise = record plain { refusals = madvise_refusals; effect = OnSpace madvise }
+rules call.FutexWaitv = record plain {
+  refusals = waitv_refusals;
+  pieces = λ sp. waitv_pieces;
+  stage = waitv_stage;
+  fetched = waitv_fetched;
+  clocked = λ clock c. Some (waitv_clocked c);
+  restarts = waitv_restarts;
+}
 
 -- a number without a call: it is refused with ENOSYS at its entry
 abbrev pub unknown : Rules

@@ -2,7 +2,8 @@
 -- its granule.
 use Rattle.page_store.specs.Pages.{Pages}
 use Rattle.std.proofs.Math.Bool.{not}
-use Rattle.std.specs.Prelude.{Bool, List, None, Option, Some, [], false, if◌then◌else◌, is_some, nat_le, suc, true, ℕ, ℤ, ◌&&◌, ◌+◌, ◌-◌, ◌==◌, ◌∷◌}
+use Rattle.std.specs.List.{list_all}
+use Rattle.std.specs.Prelude.{Bool, List, None, Option, Some, [], false, if◌then◌else◌, is_none, is_some, nat_le, suc, true, ℕ, ℤ, ◌&&◌, ◌+◌, ◌-◌, ◌==◌, ◌∷◌}
 use Rattle.a64_model.specs.declared.regs.Regs.{Regs}
 use Rattle.linux_abi.specs.declared.signals.LinuxSig.{LinuxSig}
 use Rattle.lx_machine.specs.Lists.{at_place, bind, with_place, without_place}
@@ -10,7 +11,7 @@ use Rattle.lx_machine.specs.declared.calls.LxCall.{LxCall}
 use Rattle.lx_machine.specs.declared.signals.Origin.TheVariants.{Address}
 use Rattle.lx_machine.specs.declared.state.LinuxState.{LinuxState}
 use Rattle.lx_machine.specs.declared.threads.Life.{Life}
-use Rattle.lx_machine.specs.declared.threads.Life.TheVariants.{Live}
+use Rattle.lx_machine.specs.declared.threads.Life.TheVariants.{Live, Reserved}
 use Rattle.lx_machine.specs.declared.threads.LxThread.{LxThread}
 use Rattle.places.specs.Places as place
 
@@ -18,6 +19,11 @@ use Rattle.places.specs.Places as place
 abbrev pub is_live : Life → Bool
 is_live Live = true
 is_live _ = false
+
+-- clone has reserved its place, and it has not started
+abbrev pub is_reserved : Life → Bool
+is_reserved Reserved = true
+is_reserved _ = false
 
 -- the thread in slot s is this
 abbrev pub with_thread : LinuxState → ℕ → LxThread → LinuxState
@@ -71,9 +77,7 @@ after_write s at len ts = if len == 0 then ts else unmarked_from 0 s (place.gran
 
 -- no thread stands in these places
 abbrev pub has_no_thread : List (Option LxThread) → Bool
-has_no_thread [] = true
-has_no_thread (None ∷ ts) = has_no_thread ts
-has_no_thread (Some t ∷ ts) = false
+has_no_thread ts = list_all is_none ts
 
 -- What a step makes of a thread in a call: of the state in which the thread's place is free, the slot, the thread in no
 -- call, and the call. None is no step

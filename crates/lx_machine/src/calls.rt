@@ -5,7 +5,7 @@ ghost use Rattle.lx_machine.specs.Pieces.{behind_first, piece};
 
 use crate::buffer::{Bytes, NoMemory};
 use crate::death::Death;
-use crate::futexes::{Mark, Requeue, Wait, Wake, WakeOp};
+use crate::futexes::{Mark, PiLock, Requeue, Wait, Wake, WakeOp};
 use crate::signals::SigInfo;
 use crate::state::Slot;
 use linux_abi::{LinuxErrno, answer};
@@ -87,8 +87,9 @@ impl Pieces {
 
 /// A call that has been entered: its number and arguments, how many pieces it has fetched, the pieces that it has still
 /// to copy, the bytes that it has fetched or has still to store, how many bytes it has moved, its held open file, its
-/// deadline in microseconds, whether it waits at a futex, the slot of the child that it has reserved and not started, how
-/// far the death of its thread has come, its result once it has one, in the form of x0, and the signal that ended its wait.
+/// deadline in microseconds, whether it waits at a futex, how many of its places have queued and what refused the next one
+/// (futex_waitv(2)), the slot of the child that it has reserved and not started, how far the death of its thread has come,
+/// its result once it has one, in the form of x0, and the signal that ended its wait.
 #[derive(Drop)]
 pub struct LxCall {
     pub number: u64,
@@ -100,6 +101,8 @@ pub struct LxCall {
     pub held: Option<u32>,
     pub deadline: Option<u64>,
     pub waits: bool,
+    pub queued: u32,
+    pub refusal: Option<LinuxErrno>,
     pub child: Option<Slot>,
     pub death: Option<Death>,
     pub result: Option<u64>,
@@ -123,6 +126,8 @@ impl LxCall {
             held: None,
             deadline: None,
             waits: false,
+            queued: 0,
+            refusal: None,
             child: None,
             death: None,
             result: None,
@@ -178,6 +183,17 @@ pub fn refused_if(test: bool, e: LinuxErrno) -> Option<LinuxErrno>
     if test { Some(e) } else { None }
 }
 
+/// Whether a call starts again after a signal has ended its wait (signal(7), *Interruption of system calls*).
+#[derive(Clone, Copy)]
+pub enum Restart {
+    /// It answers EINTR.
+    Never,
+    /// Where the signal's handler has SA_RESTART, or the signal isn't to be delivered any more.
+    AsAsked,
+    /// Whatever the signal's handler is.
+    Always,
+}
+
 /// What a call does next.
 #[derive(Clone, Copy)]
 pub enum Stage {
@@ -193,7 +209,7 @@ pub enum Stage {
     Move,
     /// Reads the clock, or sets its deadline.
     Clock,
-    /// Compares the word and queues.
+    /// Compares the word of a place and queues.
     Queue(Wait),
     /// Moves waiters from one word to another.
     Requeue(Requeue),
@@ -201,8 +217,16 @@ pub enum Stage {
     WakeOp(WakeOp),
     /// Releases waiters.
     Release(Wake),
+    /// Takes a lock that names its owner, or queues for it.
+    PiLock(PiLock),
+    /// Gives the lock at this address to the first that waits for it.
+    PiUnlock(u64),
     /// Is in the futex queue, or was released.
     Wait,
+    /// Has places in the futex queue, or some were released or one was refused.
+    WaitMany,
+    /// Waits for a lock that names its owner, or was given it.
+    PiWait,
     /// Waits for its deadline or a signal.
     Rest,
     /// Lets its child start.

@@ -1,11 +1,11 @@
 //! Descriptors, open files, counters and interests (open(2), pipe(7), eventfd(2), epoll(7)), and all of them together.
-ghost use Rattle.std.specs.Prelude.{◌≡◌, ◌≤◌, ◌++◌, ◌∷◌, drop, take, length, map, filter, OnOk, OnErr, []};
+ghost use Rattle.std.specs.Prelude.{◌≡◌, ◌≤◌, ◌++◌, ◌∷◌, drop, take, length, map, OnOk, OnErr, []};
 ghost use Rattle.lx_machine.specs.Lists.{at_place};
-ghost use Rattle.lx_machine.specs.Interests.{after_report, armed_for, changed, if_armed, if_reported, in_place_of, is_edge, is_elsewhere, is_kind, is_named, is_one_shot, is_open_of, is_other, is_picked, is_side, reported_once, without_interest, without_those_in};
+ghost use Rattle.lx_machine.specs.Interests.{after_report, armed_for, changed, if_armed, if_reported, in_place_of, is_kind, is_named, is_open_of, is_picked, is_side, reported_once, without_interest, without_those_in};
 
 use crate::buffer::{Bytes, NoMemory, Room};
 use crate::label::{LxSide, Pick};
-use linux_abi::epoll::{EPOLLET, EPOLLONESHOT};
+use linux_abi::epoll::{is_edge, is_one_shot};
 use std::alloc::Global;
 use std::marker::Model;
 
@@ -186,20 +186,6 @@ fn change_from(at: usize, interests: &mut [Interest], new: Interest)
     }
 }
 
-/// Whether the interest reports on new activity alone (EPOLLET).
-pub fn is_edge(interest: Interest) -> bool
-    ensures { result ≡ is_edge interest }
-{
-    interest.asked / EPOLLET % 2 == 1
-}
-
-/// Whether a report disables the interest (EPOLLONESHOT).
-pub fn is_one_shot(interest: Interest) -> bool
-    ensures { result ≡ is_one_shot interest }
-{
-    interest.asked / EPOLLONESHOT % 2 == 1
-}
-
 /// An interest that has been reported.
 fn reported_once(interest: Interest) -> Interest
     ensures { result ≡ reported_once interest }
@@ -209,8 +195,8 @@ fn reported_once(interest: Interest) -> Interest
         file: interest.file,
         asked: interest.asked,
         data: interest.data,
-        armed: interest.armed && !is_edge(interest),
-        enabled: interest.enabled && !is_one_shot(interest),
+        armed: interest.armed && !is_edge(interest.asked),
+        enabled: interest.enabled && !is_one_shot(interest.asked),
     }
 }
 
@@ -350,7 +336,7 @@ impl Input {
 pub const DESCRIPTORS: usize = 256;
 
 /// How many places there are for open files, and for counters: one for each descriptor, and one for each call's hold.
-pub const OPEN_FILES: usize = 288;
+pub const OPEN_FILES: usize = 384;
 
 /// How many pipes there can be.
 pub const PIPES: usize = 64;

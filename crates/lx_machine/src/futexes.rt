@@ -1,12 +1,16 @@
 //! What the operations on futexes are asked for (futex(2), get_robust_list(2)).
 use linux_abi::futexes::{Comparison, WordOperation};
 
-/// A wait: the address of its word, the value that the word has to have, and the bit set of the waiter.
+/// A place of a wait: the address of its word, the value that the word has to have, the bit set of the waiter, the place among
+/// those of its wait, from 0, and whether the wait is one for many places (futex_waitv(2)) or a plain one. A value of 2^32 or
+/// more equals no word.
 #[derive(Clone, Copy)]
 pub struct Wait {
     pub at: u64,
-    pub expected: u32,
+    pub expected: u64,
     pub bits: u32,
+    pub place: u32,
+    pub many: bool,
 }
 
 /// A wake: the address of its word, how many waiters it releases at most, and the bits of which each has one.
@@ -42,9 +46,19 @@ pub struct WakeOp {
     pub value: i32,
 }
 
-/// A robust futex of a thread that dies: the address of its word, and whether a waiter there may be released.
+/// A robust futex of a thread that dies: the address of its word, whether it is a lock that names its owner (bit 0 of the
+/// pointer to its entry), and whether its entry is the pending one.
 #[derive(Clone, Copy)]
 pub struct Mark {
     pub at: u64,
-    pub wakes: bool,
+    pub inherits: bool,
+    pub is_pending: bool,
+}
+
+/// A lock that names its owner is asked for: the address of its word, and whether the thread only tries
+/// (FUTEX_TRYLOCK_PI).
+#[derive(Clone, Copy)]
+pub struct PiLock {
+    pub at: u64,
+    pub tries: bool,
 }

@@ -66,7 +66,7 @@ impl Picks {
     }
 }
 
-/// A step of the Linux machine. The first field is the slot of the thread, 0 to 31, whose step it is.
+/// A step of the Linux machine. The first field is the slot of the thread, 0 to 127, whose step it is.
 #[derive(Drop)]
 pub enum Label {
     /// The instruction at pc; SVC enters a call.
@@ -85,7 +85,7 @@ pub enum Label {
     Move(u8, Picks),
     /// The clock is read.
     Clock(u8),
-    /// A futex wait compares its word and queues.
+    /// A place of a futex wait compares its word and queues.
     Queue(u8),
     /// FUTEX_REQUEUE and FUTEX_CMP_REQUEUE.
     Requeue(u8),
@@ -95,6 +95,10 @@ pub enum Label {
     Mark(u8),
     /// FUTEX_WAKE and its kin.
     Release(u8),
+    /// FUTEX_LOCK_PI and FUTEX_TRYLOCK_PI.
+    PiLock(u8),
+    /// FUTEX_UNLOCK_PI.
+    PiUnlock(u8),
     /// A futex wait that was released goes on.
     Resume(u8),
     /// A wait ends by its deadline.

@@ -1,7 +1,7 @@
 //! Signals, their information and their actions, in Linux numbers (signal(7), sigaction(2)).
 ghost use Rattle.std.specs.Prelude.{◌≡◌, ◌≤◌, ◌<◌, ◌^◌, ◌==◌, ◌++◌, ◌∷◌, [], length, OnErr, OnOk};
-ghost use Rattle.std.specs.List.{list_any, remove};
-ghost use Rattle.lx_machine.specs.Signal.{first_info, has_signal, has_unblocked, is_before, is_of, may_take, real_time_count, set_of, without_all, without_signal};
+ghost use Rattle.std.specs.List.{fold, list_any, position_or_len};
+ghost use Rattle.lx_machine.specs.Signal.{first_info, has_signal, has_unblocked, is_before, is_of, may_take, real_time_count, set_of, with_bit, without_all, without_signal};
 
 use crate::buffer::NoMemory;
 use arrayvec::ArrayVec;
@@ -119,9 +119,8 @@ fn is_before(mask: u64, signal: LinuxSig, info: SigInfo) -> bool
 /// The place of the first signal of this kind, and the length where there is none.
 fn place_of(signal: LinuxSig, infos: &[SigInfo]) -> usize
     requires { length infos.now < 2 ^ 63 }
+    ensures place { result ≡ position_or_len (is_of signal) infos.now }
     ensures most { result ≤ length infos.now }
-    ensures there { result < length infos.now → remove infos.now result ≡ without_signal signal infos.now }
-    ensures nowhere { result ≡ length infos.now → without_signal signal infos.now ≡ infos.now }
 {
     match infos {
         [] => 0,
@@ -151,13 +150,13 @@ fn first_of(signal: LinuxSig, infos: &[SigInfo]) -> Option<SigInfo>
     }
 }
 
-/// The set of them.
-fn bits_of(infos: &[SigInfo]) -> u64
-    ensures { result ≡ set_of infos.now }
+/// The set with these signals too.
+fn with_bits(set: u64, infos: &[SigInfo]) -> u64
+    ensures { result ≡ fold with_bit set infos.now }
 {
     match infos {
-        [] => 0,
-        [info, rest @ ..] => info.signal.bit() | bits_of(rest),
+        [] => set,
+        [info, rest @ ..] => with_bits(set | info.signal.bit(), rest),
     }
 }
 
@@ -269,6 +268,6 @@ impl Pending {
     pub fn bits(&self) -> u64
         ensures { result ≡ set_of self.now }
     {
-        bits_of(&self.infos)
+        with_bits(0, &self.infos)
     }
 }

@@ -2,14 +2,16 @@
 ghost use Rattle.std.specs.Prelude.{◌≡◌, ◌<◌, ◌≤◌, IfSome, None};
 
 use crate::files::Files;
+use crate::pi_queue::PiQueue;
 use crate::queue::Queue;
 use crate::signals::{Action, Pending};
 use crate::space::Space;
-use crate::threads::{GuestEnd, LxThread};
+use crate::thread_table::Threads;
+use crate::threads::GuestEnd;
 use std::marker::Model;
 
 /// How many places there are for threads.
-pub const THREADS: usize = 32;
+pub const THREADS: usize = 128;
 
 /// A place for a thread, which contracts see as its number: below `THREADS`.
 #[derive(Clone, Copy)]
@@ -26,7 +28,7 @@ impl Model for Slot {
 
     ghost inverse = { λ n. record { at = n } };
 
-    ghost invariant = { λ s. s.at < 32 };
+    ghost invariant = { λ s. s.at < 128 };
 }
 
 impl Slot {
@@ -59,13 +61,16 @@ impl Slot {
     }
 }
 
-/// The state: places for threads, memory, the one futex queue, files, the actions of signals 1 to 64, the pending signals
-/// of the process, the clock in microseconds, the tid that the next thread gets, and the end once the guest has ended.
+/// The state: the rules, 1 or 2, places for threads, memory, the one futex queue, the queue for locks that name their owner,
+/// files, the actions of signals 1 to 64, the pending signals of the process, the clock in microseconds, the tid that the next
+/// thread gets, and the end once the guest has ended.
 #[derive(Drop)]
 pub struct LinuxState {
-    pub threads: [Option<LxThread>; THREADS],
+    pub rules: u8,
+    pub threads: Threads,
     pub space: Space,
     pub queue: Queue,
+    pub pi_queue: PiQueue,
     pub files: Files,
     pub actions: [Action; 64],
     pub pending: Pending,

@@ -49,12 +49,22 @@ pub struct LxThread {
     pub call: Option<LxCall>,
 }
 
-/// A thread in the futex queue: its tid, the address of the word, and its bit set.
-#[derive(Clone, Copy, Default)]
+/// A place of a wait in the futex queue: the thread's tid, the place among those of its wait, from 0, whether the wait is one
+/// for many places (futex_waitv(2)) or a plain one, the address of the word, and the bit set.
+#[derive(Clone, Copy)]
 pub struct LxWaiter {
     pub tid: u32,
+    pub place: u32,
+    pub many: bool,
     pub address: u64,
     pub bits: u32,
+}
+
+/// A wait for a lock that names its owner: the thread's tid, and the address of the word (futex(2), FUTEX_LOCK_PI).
+#[derive(Clone, Copy, Default)]
+pub struct PiWaiter {
+    pub tid: u32,
+    pub address: u64,
 }
 
 /// How the guest ended: by an exit with a code, or by a signal.

@@ -40,6 +40,9 @@ const NO_INPUT: u8 = 121;
 
 const NO_WORDS: u8 = 2;
 
+// The rules of the guest: 128 places for threads.
+const RULES: u8 = 2;
+
 const USAGE: &str = "usage: lx_play [--seed N] IMAGE [ARG ..]\n";
 
 // The status, and the message that tells of it.
@@ -121,7 +124,7 @@ fn run_guest<O: Sink, E: Sink>(
     let Ok(input) = read_input(rt) else {
         return Err(told(NO_INPUT, "lx_play: standard input can't be read\n"));
     };
-    match Machine::start(alloc, &image, words, input) {
+    match Machine::start(alloc, &image, words, &input, RULES) {
         Ok(mut machine) => Ok(play(&mut machine, alloc, &mut schedule, out, err)),
         Err(_) => Ok(RunEnd::NoMemory),
     }

@@ -2,7 +2,7 @@
 use crate::machine::Machine;
 use crate::schedule::Schedule;
 use linux_abi::{Call, LinuxSig};
-use lx_epolls::epolls::push_due;
+use lx_epolls::epoll_wait::push_due;
 use lx_machine::buffer::NoMemory;
 use lx_machine::calls::LxCall;
 use lx_machine::files::{FileKind, Files, Interest};

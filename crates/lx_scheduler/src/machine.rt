@@ -1,5 +1,5 @@
 // The Linux machine, as the player uses it.
-ghost use Rattle.std.specs.Prelude.{◌≡◌, ◌<◌, All, IfOk, length, map, option_copied, string_bytes};
+ghost use Rattle.std.specs.Prelude.{◌≡◌, ◌<◌, ◌≤◌, All, IfOk, length, map, option_copied, string_bytes};
 ghost use Rattle.elf_image.specs.Layout.{IsPlaced};
 ghost use Rattle.lx_machine.specs.Lists.{at_place};
 ghost use Rattle.lx_machine.specs.Interests.{side_holds};
@@ -28,17 +28,19 @@ pub struct Machine {
 }
 
 impl Machine {
-    /// The guest at its start. The words are the image's name and the arguments.
+    /// The guest at its start, by these rules, 1 or 2. The words are the image's name and the arguments.
     pub fn start(
         alloc: Global,
         image: &Image,
         words: &[String],
-        input: Vec<u8>,
+        input: &[u8],
+        rules: u8,
     ) -> Result<Machine, NoMemory>
-        requires { All IsPlaced image.now.segments }
-        ensures { IfOk result (λ machine. machine.state.state ≡ start image.now (name_of (map string_bytes words.now)) (arguments_of (map string_bytes words.now)) input.items 0) }
+        requires placed { All IsPlaced image.now.segments }
+        requires known { (1 ≤ rules) × (rules ≤ 2) }
+        ensures { IfOk result (λ machine. machine.state.state ≡ start image.now (name_of (map string_bytes words.now)) (arguments_of (map string_bytes words.now)) input.now 0 rules) }
     {
-        let state = LxState::start(alloc, image, words, input, 0)?;
+        let state = LxState::start(alloc, image, words, input, 0, rules)?;
         Ok(Machine { state, taken: 0 })
     }
 
@@ -81,15 +83,15 @@ impl Machine {
 
     /// The thread in this slot.
     pub fn thread(&self, slot: u8) -> Option<&LxThread>
-        requires { slot < 32 }
+        requires { slot < 128 }
         ensures { option_copied result ≡ at_place self.now.state.state.threads slot }
     {
-        self.state.state().threads[slot as usize].as_ref()
+        self.state.state().threads.as_slice()[slot as usize].as_ref()
     }
 
     /// What the call of the thread in this slot does next, where there is a thread in a call.
     pub fn stage(&self, slot: u8) -> Option<Stage>
-        requires { slot < 32 }
+        requires { slot < 128 }
         ensures { result ≡ stage_in self.now.state.state slot }
     {
         let call = self.thread(slot)?.call.as_ref()?;
@@ -98,7 +100,7 @@ impl Machine {
 
     /// The signal of the trap of the thread in this slot, where there is one that has trapped.
     pub fn trap(&self, slot: u8) -> Option<LinuxSig>
-        requires { slot < 32 }
+        requires { slot < 128 }
         ensures { result ≡ trap_in self.now.state.state slot }
     {
         let trap = self.thread(slot)?.trap?;

@@ -63,7 +63,7 @@ fn steps(
     slot: u8,
     most: u64,
 ) -> Result<u64, NoMemory>
-    requires { slot < 32 }
+    requires { slot < 128 }
     ensures { Reaches machine.old.state.state machine.new.state.state }
 {
     for taken in 0..most {
@@ -92,7 +92,7 @@ fn turn(
     slot: u8,
     most: u64,
 ) -> Result<u64, NoMemory>
-    requires { slot < 32 }
+    requires { slot < 128 }
     ensures { Reaches machine.old.state.state machine.new.state.state }
 {
     let taken = steps(machine, alloc, schedule, slot, most)?;
@@ -114,7 +114,7 @@ fn count_threads(machine: &Machine) -> u8 {
 
 // The slot of the thread before which there are so many others, or 0.
 fn slot_of(machine: &Machine, place: u8) -> u8
-    ensures { result < 32 }
+    ensures { result < 128 }
 {
     let mut before: u8 = 0;
     for slot in 0..SLOTS {
@@ -137,7 +137,7 @@ fn turn_from(
     first: u8,
     most: u64,
 ) -> Result<u64, NoMemory>
-    requires { first < 32 }
+    requires { first < 128 }
     ensures { Reaches machine.old.state.state machine.new.state.state }
 {
     for further in 0..SLOTS {
@@ -198,7 +198,7 @@ fn drain_both<O: Sink, E: Sink>(
 
 // The deadline of the call of the thread in this slot, if it is still to come.
 fn deadline(machine: &Machine, slot: u8) -> Option<u64>
-    requires { slot < 32 }
+    requires { slot < 128 }
 {
     let deadline = machine.thread(slot)?.call.as_ref()?.deadline?;
     if deadline > machine.state().clock {

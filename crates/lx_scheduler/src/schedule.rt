@@ -5,7 +5,7 @@ use rand_core::{Rng, SeedableRng};
 use rand_xoshiro::SplitMix64;
 
 /// The places for threads.
-pub const SLOTS: u8 = 32;
+pub const SLOTS: u8 = 128;
 
 /// The most steps that a thread takes one after the other.
 const TURN: u64 = 100;

@@ -6,7 +6,7 @@ use crate::choices::{any_picks, signal_with};
 use crate::machine::Machine;
 use crate::schedule::Schedule;
 use linux_abi::{Call, LinuxSig};
-use lx_epolls::epoll_calls::first_picks;
+use lx_epolls::epoll_wait::first_picks;
 use lx_machine::buffer::NoMemory;
 use lx_machine::calls::{LxCall, Stage};
 use lx_machine::files::Files;
@@ -50,7 +50,7 @@ fn next_outside_call(machine: &Machine, schedule: &mut Schedule, thread: &LxThre
 
 /// What the thread in a slot does next, if there is one.
 fn next_of(machine: &Machine, schedule: &mut Schedule, slot: u8) -> Option<Next>
-    requires { slot < 32 }
+    requires { slot < 128 }
 {
     if let Some(stage) = machine.stage(slot) {
         return Some(Next::Call(stage));
@@ -60,7 +60,7 @@ fn next_of(machine: &Machine, schedule: &mut Schedule, slot: u8) -> Option<Next>
 
 /// The signal that ends the wait of the thread in a slot.
 fn interrupting(machine: &Machine, schedule: &mut Schedule, slot: u8) -> Option<Label>
-    requires { slot < 32 }
+    requires { slot < 128 }
 {
     let thread = machine.thread(slot)?;
     let (list, signal) = signal_with(machine, schedule, thread, thread.mask)?;
@@ -69,7 +69,7 @@ fn interrupting(machine: &Machine, schedule: &mut Schedule, slot: u8) -> Option<
 
 /// The return of the thread in a slot that takes a signal, by the mask that the call gives back.
 fn return_taking(machine: &Machine, schedule: &mut Schedule, slot: u8) -> Option<Label>
-    requires { slot < 32 }
+    requires { slot < 128 }
 {
     let thread = machine.thread(slot)?;
     let mask = thread.saved_mask.unwrap_or(thread.mask);
@@ -87,7 +87,7 @@ fn picks_of(alloc: Global, files: &Files, call: &LxCall) -> Result<Picks, NoMemo
 
 /// The move of the thread in a slot, if it is in a call.
 pub fn move_of(machine: &Machine, alloc: Global, slot: u8) -> Result<Option<Label>, NoMemory>
-    requires { slot < 32 }
+    requires { slot < 128 }
 {
     let Some(thread) = machine.thread(slot) else {
         return Ok(None);
@@ -106,7 +106,7 @@ fn chosen_move(
     schedule: &mut Schedule,
     slot: u8,
 ) -> Result<Option<Label>, NoMemory>
-    requires { slot < 32 }
+    requires { slot < 128 }
 {
     let Some(thread) = machine.thread(slot) else {
         return Ok(None);
@@ -150,7 +150,7 @@ fn end_wait(
     schedule: &mut Schedule,
     slot: u8,
 ) -> Result<bool, NoMemory>
-    requires { slot < 32 }
+    requires { slot < 128 }
     ensures { Reaches machine.old.state.state machine.new.state.state }
 {
     if machine.take(alloc, &Label::Expire(slot))? {
@@ -169,7 +169,7 @@ fn go_on(
     slot: u8,
     label: Option<Label>,
 ) -> Result<bool, NoMemory>
-    requires { slot < 32 }
+    requires { slot < 128 }
     ensures { Reaches machine.old.state.state machine.new.state.state }
 {
     if take_if_any(machine, alloc, label)? {
@@ -186,7 +186,7 @@ fn take_move(
     schedule: &mut Schedule,
     slot: u8,
 ) -> Result<bool, NoMemory>
-    requires { slot < 32 }
+    requires { slot < 128 }
     ensures { Reaches machine.old.state.state machine.new.state.state }
 {
     let chosen = chosen_move(machine, alloc, schedule, slot)?;
@@ -205,7 +205,7 @@ fn take_return(
     schedule: &mut Schedule,
     slot: u8,
 ) -> Result<bool, NoMemory>
-    requires { slot < 32 }
+    requires { slot < 128 }
     ensures { Reaches machine.old.state.state machine.new.state.state }
 {
     if machine.take(alloc, &Label::Return(slot, None))? {
@@ -224,7 +224,7 @@ fn step_in_call(
     slot: u8,
     stage: Stage,
 ) -> Result<bool, NoMemory>
-    requires { slot < 32 }
+    requires { slot < 128 }
     ensures { Reaches machine.old.state.state machine.new.state.state }
 {
     match stage {
@@ -238,7 +238,11 @@ fn step_in_call(
         Stage::Requeue(_) => machine.take(alloc, &Label::Requeue(slot)),
         Stage::WakeOp(_) => machine.take(alloc, &Label::WakeOp(slot)),
         Stage::Release(_) => machine.take(alloc, &Label::Release(slot)),
-        Stage::Wait => go_on(machine, alloc, schedule, slot, Some(Label::Resume(slot))),
+        Stage::PiLock(_) => machine.take(alloc, &Label::PiLock(slot)),
+        Stage::PiUnlock(_) => machine.take(alloc, &Label::PiUnlock(slot)),
+        Stage::Wait | Stage::WaitMany | Stage::PiWait => {
+            go_on(machine, alloc, schedule, slot, Some(Label::Resume(slot)))
+        }
         Stage::Rest => end_wait(machine, alloc, schedule, slot),
         Stage::Start => machine.take(alloc, &Label::Start(slot)),
         Stage::Mark(_) => machine.take(alloc, &Label::Mark(slot)),
@@ -259,7 +263,7 @@ pub fn step_of(
     schedule: &mut Schedule,
     slot: u8,
 ) -> Result<bool, NoMemory>
-    requires { slot < 32 }
+    requires { slot < 128 }
     ensures { Reaches machine.old.state.state machine.new.state.state }
 {
     match next_of(machine, schedule, slot) {

@@ -1,9 +1,9 @@
 //! Signals that are sent (kill(2), tkill(2)), and signals that are pending no more.
-ghost use Rattle.std.specs.Prelude.{◌≡◌, ◌<◌, ◌≤◌, ◌*◌, ◌^◌, ◌++◌, take, drop, length, map, sum_by, false, OnOk, OnErr};
+ghost use Rattle.std.specs.Prelude.{◌≡◌, ◌≤◌, ◌*◌, length, sum_by, false, OnOk, OnErr};
 ghost use Rattle.lx_machine.specs.Calls.{first_refusal};
 ghost use Rattle.lx_machine.specs.Lists.{at_place};
 ghost use Rattle.lx_machine.specs.Kill.{answered_by, has_room, has_room_at, is_no_signal, is_no_tid, is_over_limit, is_own_process, kill_refusals, kill_sending, pending_after, process_sending, tgkill_refusals, tgkill_sending, thread_sending, threads_after, tkill_refusals, tkill_sending};
-ghost use Rattle.lx_machine.specs.Signal.{can_be_sent, forgotten, forgotten_at, is_live_as, is_not_kept, live_slot, queued_signals, queued_signals_at, sent, sent_at, sent_by, sent_to};
+ghost use Rattle.lx_machine.specs.Signal.{can_be_sent, forgotten, is_live_as, is_not_kept, live_slot, queued_signals, queued_signals_at, sent, sent_at, sent_by, sent_to};
 
 use crate::taking::{action_of, is_ignored};
 use linux_abi::signals::{SI_TKILL, SI_USER};
@@ -11,7 +11,8 @@ use linux_abi::{LinuxErrno, LinuxSig};
 use lx_machine::buffer::NoMemory;
 use lx_machine::calls::{LxCall, refused_if};
 use lx_machine::signals::{Action, Origin, Pending, Sending, SigInfo};
-use lx_machine::state::{LinuxState, THREADS};
+use lx_machine::state::{LinuxState, Slot};
+use lx_machine::thread_table::Threads;
 use lx_machine::threads::{Life, LxThread};
 
 /// The process, and its user.
@@ -78,7 +79,7 @@ fn queued_at(place: &Option<LxThread>) -> usize
 
 /// How many real-time signals are pending for threads.
 fn queued_by(places: &[Option<LxThread>]) -> usize
-    requires { length places.now ≤ 32 }
+    requires { length places.now ≤ 128 }
     ensures value { result ≡ sum_by queued_signals_at places.now }
     ensures most { result ≤ 95 * length places.now }
 {
@@ -89,30 +90,11 @@ fn queued_by(places: &[Option<LxThread>]) -> usize
 }
 
 /// How many real-time signals are pending for all threads and the process.
-pub fn queued(threads: &[Option<LxThread>; THREADS], shared: &Pending) -> usize
+pub fn queued(threads: &[Option<LxThread>], shared: &Pending) -> usize
+    requires { length threads.now ≤ 128 }
     ensures { result ≡ queued_signals threads.now shared.now }
 {
     queued_by(threads) + shared.real_time_count()
-}
-
-/// The signal is pending no more for the thread in a place.
-fn forget_at(signal: LinuxSig, place: &mut Option<LxThread>)
-    ensures { place.new ≡ forgotten_at signal place.old }
-{
-    if let Some(thread) = place {
-        thread.pending.remove_all(signal);
-    }
-}
-
-/// The signal is pending no more for any thread in the places from `at` on.
-fn forget_from(at: usize, signal: LinuxSig, threads: &mut [Option<LxThread>; THREADS])
-    requires { at ≤ 32 }
-    ensures { threads.new ≡ take at threads.old ++ map (forgotten_at signal) (drop at threads.old) }
-{
-    if at < THREADS {
-        forget_at(signal, &mut threads[at]);
-        forget_from(at + 1, signal, threads);
-    }
 }
 
 /// The signal, if one is given, is pending nowhere any more: neither for the process nor for any thread.
@@ -121,7 +103,7 @@ pub fn forget(signal: Option<LinuxSig>, state: &mut LinuxState)
 {
     if let Some(signal) = signal {
         state.pending.remove_all(signal);
-        forget_from(0, signal, &mut state.threads);
+        state.threads.forget(signal);
     }
 }
 
@@ -137,7 +119,7 @@ fn is_live_as(tid: u32, place: &Option<LxThread>) -> bool
 
 /// The slot of the live thread with this tid, if there is one.
 #[tactic(auto, unfolding(lx_machine::specs::Signal::live_slot))]
-pub fn live_slot(tid: u32, threads: &[Option<LxThread>; THREADS]) -> Option<usize>
+pub fn live_slot(tid: u32, threads: &[Option<LxThread>]) -> Option<usize>
     ensures { result ≡ live_slot tid threads.now }
 {
     threads.iter().position(|place| is_live_as(tid, place))
@@ -160,21 +142,24 @@ fn send_at(
 }
 
 /// A signal is sent to the thread in this slot. `NoMemory`: its list has no room for it; then nothing changes.
-#[tactic(auto, using(std::proofs::lemmas::List::set_past, crate::proofs::Sent::placed))]
+#[tactic(auto, using(std::proofs::lemmas::List::set_past, crate::proofs::Placed::placed_back))]
 fn send_to(
     slot: usize,
     actions: &[Action; 64],
     info: SigInfo,
-    threads: &mut [Option<LxThread>; THREADS],
+    threads: &mut Threads,
 ) -> Result<(), NoMemory>
     ensures ok { OnOk result (threads.new ≡ sent_to slot actions.now info threads.old) }
     ensures err { OnErr result (threads.new ≡ threads.old) }
     ensures full { OnErr result (has_room_at actions.now info (at_place threads.old slot) ≡ false) }
 {
-    if slot >= THREADS {
+    if slot >= threads.as_slice().len() {
         return Ok(());
     }
-    send_at(actions, info, &mut threads[slot])
+    match Slot::new(slot as u8) {
+        Some(slot) => send_at(actions, info, threads.place(slot)),
+        None => Ok(()),
+    }
 }
 
 /// Whether the number is above that of the last signal.
@@ -271,7 +256,7 @@ pub fn kill_sending(count: usize, call: &LxCall) -> Sending
 }
 
 /// What tkill(2) sends, where so many real-time signals are queued.
-pub fn tkill_sending(threads: &[Option<LxThread>; THREADS], count: usize, call: &LxCall) -> Sending
+pub fn tkill_sending(threads: &[Option<LxThread>], count: usize, call: &LxCall) -> Sending
     ensures { result ≡ tkill_sending threads.now count call.now }
 {
     let slot = live_slot(call.low_argument(0), threads);
@@ -279,7 +264,7 @@ pub fn tkill_sending(threads: &[Option<LxThread>; THREADS], count: usize, call: 
 }
 
 /// What tgkill(2) sends, where so many real-time signals are queued.
-pub fn tgkill_sending(threads: &[Option<LxThread>; THREADS], count: usize, call: &LxCall) -> Sending
+pub fn tgkill_sending(threads: &[Option<LxThread>], count: usize, call: &LxCall) -> Sending
     ensures { result ≡ tgkill_sending threads.now count call.now }
 {
     if call.low_argument(0) != OWN_ID {
@@ -303,7 +288,7 @@ pub fn answer_by(sending: Sending, call: &mut LxCall)
 pub fn perform(
     sending: Sending,
     actions: &[Action; 64],
-    threads: &mut [Option<LxThread>; THREADS],
+    threads: &mut Threads,
     shared: &mut Pending,
 ) -> Result<(), NoMemory>
     ensures shared { OnOk result (shared.new ≡ pending_after sending actions.now shared.old) }

@@ -1,7 +1,7 @@
 //! How a thread takes a signal, and how a call returns (signal(7), sigaction(2)).
 ghost use Rattle.std.specs.Prelude.{◌≡◌, ◌<◌, Some, None, if◌then◌else◌};
 ghost use Rattle.lx_machine.specs.Threads.{is_user};
-ghost use Rattle.lx_machine.specs.Delivery.{Delivers, Gives, actions_by, delivered_from, ends_by, fate_by, forced, forced_by, is_reset, judged, kept_delivered, no_fate, out_of_call, own_mask, regs_after, removed_from, reset, return_thread, returned, segv_code, starts_again, take_pending, take_thread, taken_at_return, thread_by, unmasked};
+ghost use Rattle.lx_machine.specs.Delivery.{Delivers, Gives, actions_by, delivered_from, ends_by, fate_by, forced, forced_by, is_reset, judged, kept_delivered, may_start_again, no_fate, out_of_call, own_mask, regs_after, removed_from, reset, return_thread, returned, segv_code, starts_again, take_pending, take_thread, taken_at_return, thread_by, unmasked};
 ghost use Rattle.lx_machine.specs.Signal.{action_of, found_in, is_ignored, listed, with_action};
 
 use a64_model::regs::Regs;
@@ -9,7 +9,7 @@ use linux_abi::LinuxSig;
 use linux_abi::signals::{
     SEGV_ACCERR, SEGV_MAPERR, SIG_DFL, has_handler, is_default, is_ignore, resets, restarts_calls,
 };
-use lx_machine::calls::Stage;
+use lx_machine::calls::{Restart, Stage};
 use lx_machine::label::PendingList;
 use lx_machine::refusal::LxRefusal;
 use lx_machine::signals::{Action, Fate, Origin, Pending, SigInfo, Taken, has_signal};
@@ -316,16 +316,30 @@ fn settle(
     }
 }
 
-/// Whether a call whose wait was ended by a signal with this action starts again.
-fn starts_again(restarts: bool, action: Action) -> bool
+/// Whether a call whose wait was ended by a signal that is delivered by this action starts again.
+fn starts_again(restarts: Restart, action: Action) -> bool
     ensures { result ≡ starts_again restarts action }
 {
-    restarts && has_handler(action.handler) && restarts_calls(action.flags)
+    match restarts {
+        Restart::Never => false,
+        Restart::AsAsked => has_handler(action.handler) && restarts_calls(action.flags),
+        Restart::Always => true,
+    }
+}
+
+/// Whether it starts again where the signal isn't to be delivered any more.
+fn may_start_again(restarts: Restart) -> bool
+    ensures { result ≡ may_start_again restarts }
+{
+    match restarts {
+        Restart::Never => false,
+        Restart::AsAsked | Restart::Always => true,
+    }
 }
 
 /// Return, where the kept signal is still to be delivered: it is delivered with the call's mask, and none is named.
 fn return_kept(
-    restarts: bool,
+    restarts: Restart,
     actions: &mut [Action; 64],
     thread: &mut LxThread,
     shared: &Pending,
@@ -346,7 +360,7 @@ fn return_kept(
 
 /// Return, by the signal that ended the call's wait.
 fn return_with(
-    restarts: bool,
+    restarts: Restart,
     actions: &mut [Action; 64],
     thread: &mut LxThread,
     shared: &mut Pending,
@@ -358,19 +372,20 @@ fn return_with(
     ensures { Delivers (returned restarts actions.old thread.old shared.old first n named kept) thread.old thread.new shared.old shared.new actions.old actions.new result }
 {
     match kept {
-        Some(info) if is_ignored(action_of(actions, info.signal), info.signal) => settle(
-            restarts, actions, thread, shared, first, n, named,
-        ),
+        Some(info) if is_ignored(action_of(actions, info.signal), info.signal) => {
+            let again = may_start_again(restarts);
+            settle(again, actions, thread, shared, first, n, named)
+        }
         Some(info) => return_kept(restarts, actions, thread, shared, info, first, n, named),
         None => settle(false, actions, thread, shared, first, n, named),
     }
 }
 
-/// Return, of a thread whose call is at this stage: x0 has the result, or the call starts again, which `restarts` allows. The
+/// Return, of a thread whose call is at this stage: x0 has the result, or the call starts again, as `restarts` says. The
 /// signal that ended its wait is delivered, and then none is named; else the mask is given back, and the signal that is taken
 /// is named, and none exactly where none may be taken (signal(7)). What follows of a taken signal is answered.
 pub fn return_thread(
-    restarts: bool,
+    restarts: Restart,
     stage: Stage,
     actions: &mut [Action; 64],
     thread: &mut LxThread,

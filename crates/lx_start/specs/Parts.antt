@@ -31,11 +31,13 @@ space_with image stack = record {
 abbrev pub regs_with : ℕ → ℕ → Regs
 regs_with sp pc = record { x = replicate 31 0; sp = sp; pc = pc; nzcv = 0; tpidr = 0; v = replicate 32 0 }
 
-abbrev pub state_with : Image → FirstStack → List ℕ → LinuxState
-state_with image stack input = record {
-  threads = Some (first_thread (regs_with stack.sp image.entry)) ∷ replicate 31 None;
+abbrev pub state_with : Image → FirstStack → List ℕ → ℕ → LinuxState
+state_with image stack input rules = record {
+  rules = rules;
+  threads = Some (first_thread (regs_with stack.sp image.entry)) ∷ replicate 127 None;
   space = space_with image stack;
   queue = [];
+  pi_queue = [];
   files = first_files input;
   actions = replicate 64 default_action;
   pending = [];

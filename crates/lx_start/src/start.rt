@@ -17,10 +17,12 @@ use lx_machine::files::{
     OpenFile, PIPES,
 };
 use lx_machine::label::LxSide;
+use lx_machine::pi_queue::PiQueue;
 use lx_machine::queue::Queue;
 use lx_machine::signals::{Action, Pending};
 use lx_machine::space::Space;
-use lx_machine::state::{LinuxState, THREADS};
+use lx_machine::state::{LinuxState, Slot};
+use lx_machine::thread_table::Threads;
 use lx_machine::threads::{AltStack, Life, LxThread};
 use lx_memory::Memory;
 use page_ranges::Rights;
@@ -207,7 +209,7 @@ fn open_file(kind: FileKind) -> Option<OpenFile>
 
 /// The open files of the input and the two consoles.
 fn first_open_files() -> [Option<OpenFile>; OPEN_FILES]
-    ensures { result ≡ first_file FileKind.Input ∷ first_file (FileKind.Console LxSide.Out) ∷ first_file (FileKind.Console LxSide.Err) ∷ replicate 285 None }
+    ensures { result ≡ first_file FileKind.Input ∷ first_file (FileKind.Console LxSide.Out) ∷ first_file (FileKind.Console LxSide.Err) ∷ replicate 381 None }
 {
     let mut files = [None; OPEN_FILES];
     files[0] = open_file(FileKind::Input);
@@ -225,7 +227,7 @@ fn no_pipes() -> [Option<Room>; PIPES]
 
 /// No eventfd counter.
 fn no_counters() -> [Option<Counter>; OPEN_FILES]
-    ensures { result ≡ replicate 288 None }
+    ensures { result ≡ replicate 384 None }
 {
     [None; OPEN_FILES]
 }
@@ -237,10 +239,21 @@ fn no_epolls() -> [Option<Interests>; EPOLLS]
     from_fn(|_| None)
 }
 
-/// The first files: the input and the two consoles, on descriptors 0, 1 and 2.
-fn first_files(alloc: Global, input: Vec<u8>) -> Result<Files, NoMemory>
-    ensures { IfOk result (λ files. files ≡ first_files input.items) }
+/// The input: all of these bytes are left.
+fn first_input(alloc: Global, bytes: &[u8]) -> Result<Input, NoMemory>
+    ensures { IfOk result (λ input. input ≡ bytes.now) }
 {
+    match Vec::from_slice(alloc, bytes) {
+        Ok(bytes) => Ok(Input::from_vec(bytes)),
+        Err(_) => Err(NoMemory),
+    }
+}
+
+/// The first files: the input and the two consoles, on descriptors 0, 1 and 2.
+fn first_files(alloc: Global, input: &[u8]) -> Result<Files, NoMemory>
+    ensures { IfOk result (λ files. files ≡ first_files input.now) }
+{
+    let input = first_input(alloc, input)?;
     let out = Room::make(alloc)?;
     let err = Room::make(alloc)?;
     Ok(Files {
@@ -249,7 +262,7 @@ fn first_files(alloc: Global, input: Vec<u8>) -> Result<Files, NoMemory>
         pipes: no_pipes(),
         counters: no_counters(),
         epolls: no_epolls(),
-        input: Input::from_vec(input),
+        input,
         out,
         err,
         put_out: Bytes::empty(alloc),
@@ -297,20 +310,15 @@ fn first_thread(regs: Regs) -> LxThread
     }
 }
 
-/// No thread in any place.
-fn no_threads() -> [Option<LxThread>; THREADS]
-    ensures { result ≡ replicate 32 None }
-{
-    from_fn(|_| None)
-}
-
 /// The first thread in the first place, and no other.
-fn first_threads(thread: LxThread) -> [Option<LxThread>; THREADS]
-    ensures { result ≡ Some thread ∷ replicate 31 None }
+fn first_threads(alloc: Global, thread: LxThread) -> Result<Threads, NoMemory>
+    ensures { IfOk result (λ threads. threads ≡ Some thread ∷ replicate 127 None) }
 {
-    let mut threads = no_threads();
-    threads[0] = Some(thread);
-    threads
+    let mut threads = Threads::make(alloc)?;
+    if let Some(slot) = Slot::new(0) {
+        threads.put(slot, thread);
+    }
+    Ok(threads)
 }
 
 /// Each signal has its default action.
@@ -330,19 +338,24 @@ fn state_with(
     alloc: Global,
     image: &Image,
     stack: &FirstStack,
-    input: Vec<u8>,
+    input: &[u8],
+    rules: u8,
 ) -> Result<LinuxState, NoMemory>
     requires placed { All IsPlaced image.now.segments }
     requires inside { IsInStack stack.now }
-    ensures { IfOk result (λ state. state ≡ state_with image.now stack.now input.items) }
+    ensures { IfOk result (λ state. state ≡ state_with image.now stack.now input.now rules) }
 {
     let space = first_space(alloc, image, stack)?;
+    let queue = Queue::make(alloc)?;
     let files = first_files(alloc, input)?;
     let thread = first_thread(first_regs(stack.sp, image.entry));
+    let threads = first_threads(alloc, thread)?;
     Ok(LinuxState {
-        threads: first_threads(thread),
+        rules,
+        threads,
         space,
-        queue: Queue::empty(),
+        queue,
+        pi_queue: PiQueue::empty(),
         files,
         actions: first_actions(),
         pending: Pending::empty(),
@@ -373,18 +386,21 @@ fn arguments_in(words: &[String]) -> &[String]
 }
 
 /// The state in which a program starts. `words` are the name of the image and the arguments behind it; without any the
-/// name is empty. `input` is what the program reads from descriptor 0, and `seed` gives its random bytes. `NoMemory`:
-/// memory is wanting, the image has more pages than there is room for, or the stack's 64 pages have no room for the words.
+/// name is empty. `input` is what the program reads from descriptor 0, and `seed` gives its random bytes. By the rules 1 there
+/// are 32 places for threads, and 128 by the rules 2. `NoMemory`: memory is wanting, the image has more pages than there is
+/// room for, or the stack's 64 pages have no room for the words.
 pub fn first_state(
     alloc: Global,
     image: &Image,
     words: &[String],
-    input: Vec<u8>,
+    input: &[u8],
     seed: u64,
+    rules: u8,
 ) -> Result<LinuxState, NoMemory>
-    requires { All IsPlaced image.now.segments }
-    ensures { IfOk result (λ state. state ≡ start image.now (name_of (map string_bytes words.now)) (arguments_of (map string_bytes words.now)) input.items seed) }
+    requires placed { All IsPlaced image.now.segments }
+    requires known { (1 ≤ rules) × (rules ≤ 2) }
+    ensures { IfOk result (λ state. state ≡ start image.now (name_of (map string_bytes words.now)) (arguments_of (map string_bytes words.now)) input.now seed rules) }
 {
     let stack = first_stack(alloc, image, name_in(words), arguments_in(words), seed)?;
-    state_with(alloc, image, &stack, input)
+    state_with(alloc, image, &stack, input, rules)
 }

@@ -1,10 +1,8 @@
 -- A step in the place of a thread is a step of the state.
-use Rattle.std.proofs.Common.{◌≡◌, ℕ, ◌<◌, ◌≤◌, Bool, true, false, List, Option, Some, None, length, slice_set, refl}
-use Rattle.std.specs.Prelude.{slice_get, slice_index_or, if◌then◌else◌, Ok, Err}
-use Rattle.std.proofs.lemmas.Option.{slice_get_past, slice_get-get_or}
-use Rattle.std.proofs.lemmas.List.{set-get_or}
+use Rattle.std.proofs.Common.{◌≡◌, ℕ, Bool, true, false, List, Option, Some, None, refl}
+use Rattle.std.specs.Prelude.{if◌then◌else◌, Ok, Err}
 use Rattle.page_store.specs.Pages.{Pages}
-use Rattle.lx_machine.specs.Lists.{bind}
+use Rattle.lx_machine.specs.Lists.{at_place, bind}
 use Rattle.lx_machine.specs.Instruction.{Ran, instruction, ran}
 use Rattle.lx_machine.specs.Threads.{after_write, is_user, outside_call}
 use Rattle.lx_machine.specs.declared.state.LinuxState.{LinuxState}
@@ -13,19 +11,9 @@ use Rattle.lx_step.specs.Places.{ran_at, ran_in, RunsIn}
 use Rattle.lx_instructions.specs.declared.instruction.Written.{Written}
 use Rattle.lx_machine.specs.declared.refusal.LxRefusal.TheVariants.{NoStep}
 
--- what is put back where it was changes nothing
-pub set_back : (xs : List (Option LxThread)) (i : ℕ) (d : Option LxThread) → slice_set xs i (slice_index_or xs i d) ≡ xs
-set_back xs i d = set-get_or xs i d
-
-pub got : (xs : List (Option LxThread)) (s : ℕ) (d : Option LxThread) → s < length xs → slice_get xs s ≡ Some (slice_index_or xs s d)
-got xs s d within = slice_get-get_or xs s d within
-
-pub not_got : (xs : List (Option LxThread)) (s : ℕ) → length xs ≤ s → slice_get xs s ≡ None
-not_got xs s past = slice_get_past xs s past
-
 -- the instruction of the thread at a place, as a step of the state
-abbrev at_a_place : LinuxState → ℕ → Option (Option LxThread) → Option LinuxState
-at_a_place L s o = bind (bind o (λ x. x)) (λ t. if is_user t then Some (instruction L s t) else None)
+abbrev at_a_place : LinuxState → ℕ → Option LxThread → Option LinuxState
+at_a_place L s p = bind p (λ t. if is_user t then Some (instruction L s t) else None)
 
 -- the state after it
 abbrev after_run : LinuxState → ℕ → List (Option LxThread) → Pages → Written → LinuxState
@@ -37,17 +25,16 @@ runs : (L : LinuxState) (s : ℕ) (t : LxThread) (b : Bool) (threads' : List (Op
 runs L s t false threads' pages' w is = absurd is
 runs L s t true threads' pages' w is = let (pages_are, threads_are, written_is) = is in rw (pages_are, threads_are, written_is) refl
 
-steps_at : (L : LinuxState) (s : ℕ) (o : Option (Option LxThread)) (threads' : List (Option LxThread)) (pages' : Pages) (w : Written)
-    → RunsIn (bind o (ran_at L.space.pages)) L.space.pages pages' L.threads threads' s (Ok w)
-    → at_a_place L s o ≡ Some (after_run L s threads' pages' w)
+steps_at : (L : LinuxState) (s : ℕ) (p : Option LxThread) (threads' : List (Option LxThread)) (pages' : Pages) (w : Written)
+    → RunsIn (ran_at L.space.pages p) L.space.pages pages' L.threads threads' s (Ok w)
+    → at_a_place L s p ≡ Some (after_run L s threads' pages' w)
 steps_at L s None threads' pages' w is = absurd is
-steps_at L s (Some None) threads' pages' w is = absurd is
-steps_at L s (Some (Some t)) threads' pages' w is = runs L s t (is_user t) threads' pages' w is
+steps_at L s (Some t) threads' pages' w is = runs L s t (is_user t) threads' pages' w is
 
 pub steps : (L : LinuxState) (s : ℕ) (threads' : List (Option LxThread)) (pages' : Pages) (w : Written)
     → RunsIn (ran_in L.space.pages L.threads s) L.space.pages pages' L.threads threads' s (Ok w)
     → outside_call L s (λ t. Some (instruction L s t)) ≡ Some (record L { space = record L.space { pages = pages' }; threads = after_write s w.at w.len threads' })
-steps L s threads' pages' w is = steps_at L s (slice_get L.threads s) threads' pages' w is
+steps L s threads' pages' w is = steps_at L s (at_place L.threads s) threads' pages' w is
 
 rests : (L : LinuxState) (s : ℕ) (t : LxThread) (b : Bool) (threads' : List (Option LxThread)) (pages' : Pages)
     → RunsIn (if b then Some (ran L.space.pages t) else None) L.space.pages pages' L.threads threads' s (Err NoStep)
@@ -55,17 +42,16 @@ rests : (L : LinuxState) (s : ℕ) (t : LxThread) (b : Bool) (threads' : List (O
 rests L s t false threads' pages' is = refl
 rests L s t true threads' pages' is = absurd is
 
-rests_at : (L : LinuxState) (s : ℕ) (o : Option (Option LxThread)) (threads' : List (Option LxThread)) (pages' : Pages)
-    → RunsIn (bind o (ran_at L.space.pages)) L.space.pages pages' L.threads threads' s (Err NoStep)
-    → at_a_place L s o ≡ None
+rests_at : (L : LinuxState) (s : ℕ) (p : Option LxThread) (threads' : List (Option LxThread)) (pages' : Pages)
+    → RunsIn (ran_at L.space.pages p) L.space.pages pages' L.threads threads' s (Err NoStep)
+    → at_a_place L s p ≡ None
 rests_at L s None threads' pages' is = refl
-rests_at L s (Some None) threads' pages' is = refl
-rests_at L s (Some (Some t)) threads' pages' is = rests L s t (is_user t) threads' pages' is
+rests_at L s (Some t) threads' pages' is = rests L s t (is_user t) threads' pages' is
 
 pub no_step : (L : LinuxState) (s : ℕ) (threads' : List (Option LxThread)) (pages' : Pages)
     → RunsIn (ran_in L.space.pages L.threads s) L.space.pages pages' L.threads threads' s (Err NoStep)
     → outside_call L s (λ t. Some (instruction L s t)) ≡ None
-no_step L s threads' pages' is = rests_at L s (slice_get L.threads s) threads' pages' is
+no_step L s threads' pages' is = rests_at L s (at_place L.threads s) threads' pages' is
 
 unchanged_by : (o : Option Ran) (pages pages' : Pages) (threads threads' : List (Option LxThread)) (s : ℕ)
     → RunsIn o pages pages' threads threads' s (Err NoStep) → (pages' ≡ pages) × (threads' ≡ threads)

@@ -1,6 +1,6 @@
 -- Gone by what comes next of a call; Effect of a call of all threads or of its own thread.
 use Rattle.std.proofs.Common.{◌≡◌, ℕ, Option, Some, None, refl, subst, sym, true, false}
-use Rattle.std.specs.Prelude.{slice_get, if◌then◌else◌}
+use Rattle.std.specs.Prelude.{if◌then◌else◌}
 use Rattle.std.specs.Option.{option_or}
 use Rattle.lx_machine.specs.Lists.{at_place, bind}
 use Rattle.lx_machine.specs.Step.{effect, gone, in_call, of_call}
@@ -13,8 +13,9 @@ use Rattle.lx_machine.specs.declared.threads.LxThread.{LxThread}
 use Rattle.lx_machine.specs.Shape.{stage_of}
 use Rattle.lx_machine.specs.Rules.{Effect, OnAll, OnFiles, OnNothing, OnSpace, OnThread, has_effect}
 use Rattle.lx_machine.specs.Table.{rules_of}
-use Rattle.lx_step.specs.Effects.{own_part, whole_part}
-use Rattle.lx_step.specs.CallSteps.{is_gone, is_gone_in, is_gone_stage, after_gone, after_gone_in, whole_effect_at, own_effect_at}
+use Rattle.lx_call_steps.specs.Effects.{own_effect_at, own_part}
+use Rattle.lx_step.specs.CallSteps.{after_gone, after_gone_in, is_gone, is_gone_in, is_gone_stage, whole_effect_at}
+use Rattle.lx_step.specs.Wholes.{whole_part}
 
 -- ---- Gone
 
@@ -31,7 +32,11 @@ staged (stage.Queue w) L s t c = refl
 staged (stage.Requeue r) L s t c = refl
 staged (stage.WakeOp w) L s t c = refl
 staged (stage.Release w) L s t c = refl
+staged (stage.PiLock k) L s t c = refl
+staged (stage.PiUnlock at) L s t c = refl
 staged stage.Wait L s t c = refl
+staged stage.WaitMany L s t c = refl
+staged stage.PiWait L s t c = refl
 staged stage.Rest L s t c = refl
 staged stage.Start L s t c = refl
 staged (stage.Mark m) L s t c = refl
@@ -45,17 +50,17 @@ gone_in : (L : LinuxState) (s : ℕ) (t : LxThread) (o : Option LxCall)
 gone_in L s t None = refl
 gone_in L s t (Some c) = staged (stage_of c) L s (without_call t) c
 
-gone_at : (L : LinuxState) (s : ℕ) (t : LxThread) → slice_get L.threads s ≡ Some (Some t)
+gone_at : (L : LinuxState) (s : ℕ) (t : LxThread) → at_place L.threads s ≡ Some t
     → in_call L s (gone) ≡ (if is_gone t then Some (after_gone (without_thread L s) t) else None)
 gone_at L s t is =
-    subst (λ (g : Option (Option LxThread)). bind (bind g (λ p. p)) (λ t. of_call (gone) (without_thread L s) s t) ≡ (if is_gone t then Some (after_gone (without_thread L s) t) else None))
+    subst (λ (p : Option LxThread). bind p (λ t. of_call (gone) (without_thread L s) s t) ≡ (if is_gone t then Some (after_gone (without_thread L s) t) else None))
     (sym is) (gone_in (without_thread L s) s t t.call)
 
-pub goes : (L : LinuxState) (s : ℕ) (t : LxThread) → slice_get L.threads s ≡ Some (Some t) → is_gone t ≡ true
+pub goes : (L : LinuxState) (s : ℕ) (t : LxThread) → at_place L.threads s ≡ Some t → is_gone t ≡ true
     → in_call L s (gone) ≡ Some (after_gone (without_thread L s) t)
 goes L s t is so = rw (gone_at L s t is, so) refl
 
-pub stays : (L : LinuxState) (s : ℕ) (t : LxThread) → slice_get L.threads s ≡ Some (Some t) → is_gone t ≡ false
+pub stays : (L : LinuxState) (s : ℕ) (t : LxThread) → at_place L.threads s ≡ Some t → is_gone t ≡ false
     → in_call L s (gone) ≡ None
 stays L s t is so = rw (gone_at L s t is, so) refl
 
@@ -82,7 +87,11 @@ effect_staged (stage.Queue w) L s t c = refl
 effect_staged (stage.Requeue r) L s t c = refl
 effect_staged (stage.WakeOp w) L s t c = refl
 effect_staged (stage.Release w) L s t c = refl
+effect_staged (stage.PiLock k) L s t c = refl
+effect_staged (stage.PiUnlock at) L s t c = refl
 effect_staged stage.Wait L s t c = refl
+effect_staged stage.WaitMany L s t c = refl
+effect_staged stage.PiWait L s t c = refl
 effect_staged stage.Rest L s t c = refl
 effect_staged stage.Start L s t c = refl
 effect_staged (stage.Mark m) L s t c = refl
@@ -121,7 +130,11 @@ short_staged (stage.Queue w) L s t c = refl
 short_staged (stage.Requeue r) L s t c = refl
 short_staged (stage.WakeOp w) L s t c = refl
 short_staged (stage.Release w) L s t c = refl
+short_staged (stage.PiLock k) L s t c = refl
+short_staged (stage.PiUnlock at) L s t c = refl
 short_staged stage.Wait L s t c = refl
+short_staged stage.WaitMany L s t c = refl
+short_staged stage.PiWait L s t c = refl
 short_staged stage.Rest L s t c = refl
 short_staged stage.Start L s t c = refl
 short_staged (stage.Mark m) L s t c = refl

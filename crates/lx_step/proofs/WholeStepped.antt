@@ -14,17 +14,19 @@ use Rattle.lx_machine.specs.declared.threads.LxThread.{LxThread}
 use Rattle.lx_machine.specs.Shape.{stage_of}
 use Rattle.lx_machine.specs.Whole.{Whole, call_put, put_whole, whole}
 use Rattle.lx_machine.specs.Table.{rules_of}
-use Rattle.lx_step.specs.Effects.{all_part}
+use Rattle.lx_call_steps.specs.Makes.{effect_makes}
+use Rattle.lx_call_steps.specs.Outcomes.{IsDecided}
 use Rattle.lx_step.specs.CallSteps.{whole_effect_at}
 use Rattle.lx_step.specs.Outcomes.{WholeGoes}
-use Rattle.lx_step.specs.Wholes.{whole_at, taken_at, taken_of, taken_from, call_out}
+use Rattle.lx_step.specs.Wholes.{all_part, whole_at, taken_at, taken_of, taken_from, call_out}
 use Rattle.lx_machine.specs.declared.refusal.LxRefusal.{LxRefusal}
 use Rattle.lx_machine.specs.declared.refusal.LxRefusal.TheVariants.{NoStep, NoMemory}
-use Rattle.lx_step.specs.Steps.{IsDecided, Steps}
-use Rattle.lx_step.specs.Wants.{WantsIn, effect_makes, in_call_may_want, may_want_at}
+use Rattle.lx_step.specs.Steps.{Steps}
+use Rattle.lx_step.specs.Wants.{WantsIn, in_call_may_want, may_want_at}
 use Rattle.lx_machine.specs.declared.files.Files.{Files}
 use Rattle.lx_machine.specs.declared.label.Label.TheVariants as label
 use Rattle.lx_machine.specs.declared.threads.LxWaiter.{LxWaiter}
+use Rattle.lx_machine.specs.declared.threads.PiWaiter.{PiWaiter}
 use Rattle.std.specs.Bool.{OnFalse}
 use Rattle.lx_step.proofs.PutBack.{call_back}
 use Rattle.lx_step.specs.declared.whole_steps.Taken.{Taken}
@@ -50,7 +52,11 @@ staged (stage.Queue w) L threads s t c = refl
 staged (stage.Requeue r) L threads s t c = refl
 staged (stage.WakeOp w) L threads s t c = refl
 staged (stage.Release w) L threads s t c = refl
+staged (stage.PiLock k) L threads s t c = refl
+staged (stage.PiUnlock at) L threads s t c = refl
 staged stage.Wait L threads s t c = refl
+staged stage.WaitMany L threads s t c = refl
+staged stage.PiWait L threads s t c = refl
 staged stage.Rest L threads s t c = refl
 staged stage.Start L threads s t c = refl
 staged (stage.Mark m) L threads s t c = refl
@@ -197,11 +203,11 @@ ends L L1 L2 s k c2 threads2 result is out_is goes put =
 
 -- ---- want of memory
 
-wants_call : (n : ℕ) (F : Files) (ws : List LxWaiter) (t : LxThread) (o : Option LxCall) (k : Taken) (r : Result (Unit {0}) LxRefusal)
+wants_call : (n : ℕ) (F : Files) (ws : List LxWaiter) (ls : List PiWaiter) (t : LxThread) (o : Option LxCall) (k : Taken) (r : Result (Unit {0}) LxRefusal)
     → option_map (taken_from t) o ≡ Some k → OnFalse (effect_makes (call_of k.call.number)) (IsDecided r)
-    → OnFalse (in_call_may_want (label.Effect n false) F ws o) (IsDecided r)
-wants_call n F ws t None k r is h = cc
-wants_call n F ws t (Some c) k r is h =
+    → OnFalse (in_call_may_want (label.Effect n false) F ws ls o) (IsDecided r)
+wants_call n F ws ls t None k r is h = cc
+wants_call n F ws ls t (Some c) k r is h =
     let same : k ≡ taken_from t c = cc in
     subst (λ (taken : Taken). OnFalse (effect_makes (call_of taken.call.number)) (IsDecided r)) same h
 
@@ -209,7 +215,7 @@ wants_place : (L : LinuxState) (n : ℕ) (p : Option LxThread) (k : Taken) (r : 
     → bind p taken_of ≡ Some k → OnFalse (effect_makes (call_of k.call.number)) (IsDecided r)
     → OnFalse (may_want_at (label.Effect n false) L p) (IsDecided r)
 wants_place L n None k r is h = cc
-wants_place L n (Some t) k r is h = wants_call n L.files L.queue t t.call k r is h
+wants_place L n (Some t) k r is h = wants_call n L.files L.queue L.pi_queue t t.call k r is h
 
 -- an effect on all threads wants memory only by its call
 pub wants : (L : LinuxState) (n s : ℕ) (k : Taken) (r : Result (Unit {0}) LxRefusal)

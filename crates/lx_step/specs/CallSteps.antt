@@ -1,6 +1,6 @@
 -- The step that a label names of a thread that is taken out of its place, and of one whose call is taken out of it.
 use Rattle.std.specs.Prelude.{Bool, true, false, if◌then◌else◌, Option, Some, None}
-use Rattle.lx_machine.specs.Step.{clock, fetch, hold, leave, give_back, mark, move, queue, release, requeue, resume, start, store, wake_op}
+use Rattle.lx_machine.specs.Step.{clock, fetch, hold, leave, give_back, mark, move, pi_lock, pi_unlock, queue, release, requeue, start, store, wake_op}
 use Rattle.lx_machine.specs.Threads.{InCall, OfThread, has_no_thread}
 use Rattle.lx_machine.specs.declared.calls.LxCall.{LxCall}
 use Rattle.lx_machine.specs.declared.calls.Stage.{Stage}
@@ -14,17 +14,13 @@ use Rattle.lx_machine.specs.Shape.{stage_of}
 use Rattle.lx_machine.specs.Delivery.{kill, return, take}
 use Rattle.lx_machine.specs.SignalFrame.{frame}
 use Rattle.lx_machine.specs.Table.{rules_of}
-use Rattle.lx_step.specs.Effects.{own_effect, whole_part}
-use Rattle.lx_machine.specs.Waits.{expire, interrupt}
+use Rattle.lx_call_steps.specs.Effects.{own_effect_at}
+use Rattle.lx_step.specs.Wholes.{whole_part}
+use Rattle.lx_machine.specs.Waits.{expire, interrupt, resume}
 
 -- no step
 abbrev pub no_step : Stage → InCall
 no_step st L s t c = None
-
--- Effect of a call that changes no other thread
-abbrev pub own_effect_at : Bool → Stage → InCall
-own_effect_at short stage.Effect L s t c = own_effect short (rules_of c) L s t c
-own_effect_at short _ L s t c = None
 
 -- Effect of a call of all threads
 abbrev pub whole_effect_at : Stage → InCall
@@ -45,6 +41,8 @@ call_step (label.Requeue s) = requeue
 call_step (label.WakeOp s) = wake_op
 call_step (label.Mark s) = mark
 call_step (label.Release s) = release
+call_step (label.PiLock s) = pi_lock
+call_step (label.PiUnlock s) = pi_unlock
 call_step (label.Resume s) = resume
 call_step (label.Expire s) = expire
 call_step (label.Interrupt s list sig) = interrupt list sig

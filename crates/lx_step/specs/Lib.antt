@@ -4,4 +4,3 @@ pub mod Places
 pub mod Steps
 pub mod Wants
 pub mod Wholes
-pub mod Effects

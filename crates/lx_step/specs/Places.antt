@@ -1,7 +1,7 @@
 -- Steps in the place of a thread.
-use Rattle.std.specs.Prelude.{◌≡◌, ℕ, if◌then◌else◌, List, slice_get, Option, Some, None, Result, Ok, Err}
+use Rattle.std.specs.Prelude.{◌≡◌, ℕ, if◌then◌else◌, List, Option, Some, None, Result, Ok, Err}
 use Rattle.page_store.specs.Pages.{Pages}
-use Rattle.lx_machine.specs.Lists.{bind, with_place}
+use Rattle.lx_machine.specs.Lists.{at_place, with_place}
 use Rattle.lx_machine.specs.Instruction.{Ran, ran}
 use Rattle.lx_machine.specs.Threads.{is_user}
 use Rattle.lx_machine.specs.declared.threads.LxThread.{LxThread}
@@ -24,7 +24,7 @@ RunsAt o pages pages' place place' (Err NoMemory) = (pages' ≡ pages) × (place
 
 -- the same in a slot, of all threads
 abbrev pub ran_in : Pages → List (Option LxThread) → ℕ → Option Ran
-ran_in pages threads s = bind (slice_get threads s) (ran_at pages)
+ran_in pages threads s = ran_at pages (at_place threads s)
 
 abbrev pub RunsIn : Option Ran → Pages → Pages → List (Option LxThread) → List (Option LxThread) → ℕ → Result Written LxRefusal → Type 0
 RunsIn (Some r) pages pages' threads threads' s (Ok w) = (pages' ≡ r.pages) × (threads' ≡ with_place threads s r.thread) × (w ≡ record { at = r.at; len = r.written })

@@ -1,18 +1,26 @@
 -- The step of a call that looks at all threads: of the state with the caller in its place, whose call is taken out of it.
-use Rattle.std.specs.Prelude.{ℕ, List, Option, None, slice_set}
+use Rattle.std.specs.Prelude.{ℕ, List, Option, None, Some, slice_set}
 use Rattle.std.specs.Option.{option_map}
-use Rattle.lx_machine.specs.Threads.{without_call}
+use Rattle.lx_machine.specs.Rules.{Effect, OnAll}
+use Rattle.lx_machine.specs.Threads.{InCall, with_thread, without_call}
 use Rattle.lx_machine.specs.declared.calls.LxCall.{LxCall}
 use Rattle.lx_machine.specs.declared.calls.Stage.{Stage}
 use Rattle.lx_machine.specs.declared.state.LinuxState.{LinuxState}
 use Rattle.lx_machine.specs.declared.threads.LxThread.{LxThread}
 use Rattle.lx_machine.specs.Lists.{at_place, bind}
 use Rattle.lx_machine.specs.declared.calls.Stage.TheVariants as stage
-use Rattle.linux_abi.specs.Call.{call_of}
 use Rattle.lx_step.specs.declared.whole_steps.Taken.{Taken}
-use Rattle.lx_machine.specs.Whole.{Whole}
+use Rattle.lx_machine.specs.Whole.{Whole, put_whole}
 use Rattle.lx_machine.specs.Table.{rules_of}
-use Rattle.lx_step.specs.Effects.{all_part}
+
+-- on all threads: of the state with the caller in its place, in no call, with this mask and this robust list
+abbrev pub all_part : Effect → LinuxState → ℕ → ℕ → LxCall → Option Whole
+all_part (OnAll f) L mask robust_head c = Some (f L mask robust_head c)
+all_part _ L mask robust_head c = None
+
+-- the same of the state where the caller's place is free
+abbrev pub whole_part : Effect → InCall
+whole_part e L s t c = option_map (put_whole s) (all_part e (with_thread L s t) t.mask t.robust_head c)
 
 -- the step of all threads, of a caller with this mask and this robust list, where Effect is what the call does next
 abbrev pub whole_at : Stage → LinuxState → ℕ → ℕ → LxCall → Option Whole

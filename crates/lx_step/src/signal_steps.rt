@@ -2,17 +2,15 @@
 ghost use Rattle.std.specs.Prelude.{◌≡◌};
 ghost use Rattle.lx_machine.specs.Delivery.{kill, kill_follows, killed_by, return, take};
 ghost use Rattle.lx_machine.specs.SignalFrame.{frame};
-ghost use Rattle.lx_machine.specs.Shape.{restarts};
 ghost use Rattle.lx_machine.specs.Signal.{forgotten};
 ghost use Rattle.lx_machine.specs.Threads.{with_thread};
 ghost use Rattle.lx_step.specs.Outcomes.{ThreadGoes};
-ghost use Rattle.lx_step.specs.Steps.{IsDecided};
+ghost use Rattle.lx_call_steps.specs.Outcomes.{IsDecided};
 
-use crate::threads::unmark;
-use linux_abi::{Call, LinuxSig};
-use lx_calls::shape::stage_of;
-use lx_futexes::futexes::is_timed;
-use lx_machine::calls::{LxCall, Stage};
+use lx_call_steps::marks::unmark;
+use linux_abi::LinuxSig;
+use lx_calls::shape::{restarts, stage_of};
+use lx_machine::calls::Stage;
 use lx_machine::label::PendingList;
 use lx_machine::refusal::LxRefusal;
 use lx_machine::signals::Fate;
@@ -21,21 +19,9 @@ use lx_machine::threads::{GuestEnd, LxThread};
 use lx_signal_calls::frames::store_taken;
 use lx_signals::sending::forget;
 use lx_signals::taking::{Named, return_thread, take_thread};
-use lx_transfers::transfers::may_restart;
 
 /// The bytes of a frame and of its record.
 const FRAME: u128 = 4704;
-
-/// Whether the call starts again after a signal has ended its wait.
-fn restarts(call: &LxCall) -> bool
-    ensures { result ≡ restarts call.now }
-{
-    match Call::new(call.number) {
-        Some(Call::Read | Call::Readv | Call::Write | Call::Writev) => may_restart(call),
-        Some(Call::Futex) => !is_timed(call),
-        _ => false,
-    }
-}
 
 /// A signal ends the guest, if one does.
 fn end_by(state: &mut LinuxState, signal: Option<LinuxSig>)
@@ -69,12 +55,12 @@ pub fn return_result(
     ensures goes { ThreadGoes (return named state.old slot thread.old) state.old state.new slot thread.old thread.new result }
     ensures decided { IsDecided result }
 {
-    let (again, stage) = match &thread.call {
+    let (restarts, stage) = match &thread.call {
         Some(call) => (restarts(call), stage_of(call)),
         None => return Err(LxRefusal::NoStep),
     };
     let fate = return_thread(
-        again,
+        restarts,
         stage,
         &mut state.actions,
         thread,

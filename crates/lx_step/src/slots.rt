@@ -1,22 +1,25 @@
 //! A thread is taken out of its place, steps, and is put back; and so is the call of a thread.
 ghost use Rattle.std.specs.Bool.{OnFalse};
-ghost use Rattle.std.specs.Prelude.{◌≡◌, slice_get, Some, None, IfSome};
+ghost use Rattle.std.specs.Prelude.{◌≡◌, Some, None, IfSome};
 ghost use Rattle.lx_machine.specs.Lists.{at_place, without_place};
 ghost use Rattle.lx_machine.specs.Threads.{with_thread};
 ghost use Rattle.lx_machine.specs.Step.{gone, in_call, of_call, on_thread};
 ghost use Rattle.lx_machine.specs.Shape.{stage_of};
 ghost use Rattle.lx_step.specs.CallSteps.{call_step, thread_step, is_gone, after_gone};
-ghost use Rattle.lx_step.specs.Outcomes.{CallGoes, ThreadGoes};
-ghost use Rattle.lx_step.specs.Steps.{Steps, IsDecided, IsDecidedAt};
+ghost use Rattle.lx_call_steps.specs.Outcomes.{CallGoes, IsDecided};
+ghost use Rattle.lx_step.specs.Outcomes.{ThreadGoes};
+ghost use Rattle.lx_step.specs.Steps.{Steps, IsDecidedAt};
 ghost use Rattle.lx_step.specs.Wants.{WantsIn, call_may_want, in_call_may_want};
 
-use crate::life_steps::{all_free, end_guest};
-use crate::{file_steps, futex_steps, life_steps, own_effects, pieces, signal_steps, wait_steps};
+use crate::signal_steps;
+use lx_call_steps::life_steps::{all_free, end_guest};
+use lx_call_steps::{file_steps, futex_steps, life_steps, own_effects, pieces, wait_steps};
 use lx_calls::shape::stage_of;
 use lx_machine::calls::{LxCall, Stage};
 use lx_machine::label::Label;
 use lx_machine::refusal::LxRefusal;
-use lx_machine::state::{LinuxState, Slot, THREADS};
+use lx_machine::state::{LinuxState, Slot};
+use lx_machine::thread_table::Threads;
 use lx_machine::threads::LxThread;
 use std::alloc::Global;
 use std::mem;
@@ -33,7 +36,7 @@ fn step_call(
 ) -> Result<(), LxRefusal>
     ensures goes { CallGoes (call_step label.now stage state.old slot thread.old call.old) state.old state.new slot thread.old thread.new call.old call.new result }
     ensures decided { IsDecidedAt label.now result }
-    ensures wants { OnFalse (call_may_want label.now state.old.files state.old.queue call.old) (IsDecided result) }
+    ensures wants { OnFalse (call_may_want label.now state.old.files state.old.queue state.old.pi_queue call.old) (IsDecided result) }
 {
     match label {
         Label::Fetch(_) => pieces::fetch(state, alloc, slot, thread, call, stage),
@@ -52,6 +55,8 @@ fn step_call(
         Label::WakeOp(_) => futex_steps::wake_op(state, slot, thread, call, stage),
         Label::Mark(_) => futex_steps::mark(state, alloc, slot, thread, call, stage),
         Label::Release(_) => futex_steps::release(state, slot, thread, call, stage),
+        Label::PiLock(_) => futex_steps::pi_lock(state, slot, thread, call, stage),
+        Label::PiUnlock(_) => futex_steps::pi_unlock(state, slot, thread, call, stage),
         Label::Resume(_) => futex_steps::resume(state, slot, thread, call, stage),
         Label::Expire(_) => wait_steps::expire(state, slot, thread, call, stage),
         Label::Interrupt(_, list, signal) => {
@@ -74,7 +79,7 @@ fn step_thread(
 ) -> Result<(), LxRefusal>
     ensures goes { ThreadGoes (of_call (call_step label.now) state.old slot thread.old) state.old state.new slot thread.old thread.new result }
     ensures decided { IsDecidedAt label.now result }
-    ensures wants { OnFalse (in_call_may_want label.now state.old.files state.old.queue thread.old.call) (IsDecided result) }
+    ensures wants { OnFalse (in_call_may_want label.now state.old.files state.old.queue state.old.pi_queue thread.old.call) (IsDecided result) }
 {
     match mem::replace(&mut thread.call, None) {
         Some(mut call) => {
@@ -89,28 +94,32 @@ fn step_thread(
 
 /// The place of this number, if there is one.
 #[tactic(auto, using(crate::proofs::PutBack::no_thread))]
-pub(crate) fn place_of(threads: &[Option<LxThread>; THREADS], number: u8) -> Option<Slot>
+pub(crate) fn place_of(threads: &Threads, number: u8) -> Option<Slot>
     ensures there { IfSome result (λ slot. slot ≡ number) }
     ensures nowhere { result ≡ None → at_place threads.now number ≡ None }
 {
-    Slot::new(number)
+    if usize::from(number) < threads.as_slice().len() {
+        Slot::new(number)
+    } else {
+        None
+    }
 }
 
 /// Takes the thread out of a slot, if there is one.
-#[tactic(auto, using(crate::proofs::Instructed::got, crate::proofs::Instructed::not_got, crate::proofs::Instructed::set_back))]
-fn take_from(threads: &mut [Option<LxThread>; THREADS], slot: Slot) -> Option<LxThread>
-    ensures there { IfSome result (λ t. slice_get threads.old slot ≡ Some (Some t)) }
+#[tactic(auto, using(crate::proofs::PutBack::none_out))]
+fn take_from(threads: &mut Threads, slot: Slot) -> Option<LxThread>
+    ensures there { IfSome result (λ t. at_place threads.old slot ≡ Some t) }
     ensures out { IfSome result (λ t. threads.new ≡ without_place threads.old slot) }
     ensures nowhere { result ≡ None → (at_place threads.old slot ≡ None) × (threads.new ≡ threads.old) }
 {
-    mem::replace(&mut threads[slot.index()], None)
+    threads.take(slot)
 }
 
 /// Puts a thread into a slot.
 fn put_back(state: &mut LinuxState, slot: Slot, thread: LxThread)
     ensures { state.new ≡ with_thread state.old slot thread }
 {
-    state.threads[slot.index()] = Some(thread);
+    state.threads.put(slot, thread);
 }
 
 /// The step of the thread in a slot, in its call, that a label names.
@@ -211,7 +220,7 @@ fn after_gone(state: &mut LinuxState, thread: &LxThread)
     ensures { state.new ≡ after_gone state.old thread.now }
 {
     if let Some(call) = &thread.call {
-        if all_free(&state.threads) {
+        if all_free(state.threads.as_slice()) {
             end_guest(state, call);
         }
     }

@@ -1,5 +1,5 @@
 //! The Linux machine, in a form that runs.
-ghost use Rattle.std.specs.Prelude.{◌≡◌, true, false, length, IfOk, All, map, string_bytes};
+ghost use Rattle.std.specs.Prelude.{◌≡◌, ◌≤◌, true, false, length, IfOk, All, map, string_bytes};
 ghost use Rattle.elf_image.specs.Layout.{IsPlaced};
 ghost use Rattle.lx_machine.specs.Interests.{side_holds};
 ghost use Rattle.lx_machine.specs.Step.{at_time, drain, effect, in_call, step_of};
@@ -8,7 +8,8 @@ ghost use Rattle.lx_machine.specs.Shape.{stage_of};
 ghost use Rattle.lx_machine.specs.Step.{LStep};
 ghost use Rattle.lx_machine.specs.Start.{start};
 ghost use Rattle.lx_machine.specs.Stack.{arguments_of, name_of};
-ghost use Rattle.lx_step.specs.Steps.{Steps, IsDecided, IsDecidedAt};
+ghost use Rattle.lx_call_steps.specs.Outcomes.{IsDecided};
+ghost use Rattle.lx_step.specs.Steps.{Steps, IsDecidedAt};
 ghost use Rattle.lx_step.specs.Wants.{Wants, WantsIn};
 
 use crate::{slots, threads, whole_steps};
@@ -112,6 +113,8 @@ fn step_on(state: &mut LinuxState, alloc: Global, label: &Label) -> Result<(), L
         | Label::WakeOp(slot)
         | Label::Mark(slot)
         | Label::Release(slot)
+        | Label::PiLock(slot)
+        | Label::PiUnlock(slot)
         | Label::Resume(slot)
         | Label::Expire(slot)
         | Label::Interrupt(slot, _, _)
@@ -127,26 +130,28 @@ fn step_on(state: &mut LinuxState, alloc: Global, label: &Label) -> Result<(), L
 
 impl LxState {
     /// The machine before the first step of a program: `image` is loaded, `words` are the image's name and the arguments,
-    /// `input` is what it can read, and `seed` tells the bytes of AT_RANDOM. `NoMemory`: memory is wanting, or the program
+    /// `input` is what it can read, `seed` tells the bytes of AT_RANDOM, and `rules` are 1 or 2. `NoMemory`: memory is wanting, or the program
     /// and its words have no room.
     pub fn start(
         alloc: Global,
         image: &Image,
         words: &[String],
-        input: Vec<u8>,
+        input: &[u8],
         seed: u64,
+        rules: u8,
     ) -> Result<LxState, NoMemory>
-        requires { All IsPlaced image.now.segments }
-        ensures { IfOk result (λ machine. machine.state ≡ start image.now (name_of (map string_bytes words.now)) (arguments_of (map string_bytes words.now)) input.items seed) }
+        requires placed { All IsPlaced image.now.segments }
+        requires known { (1 ≤ rules) × (rules ≤ 2) }
+        ensures { IfOk result (λ machine. machine.state ≡ start image.now (name_of (map string_bytes words.now)) (arguments_of (map string_bytes words.now)) input.now seed rules) }
     {
-        let state = first_state(alloc, image, words, input, seed)?;
+        let state = first_state(alloc, image, words, input, seed, rules)?;
         Ok(LxState { state })
     }
 
     /// Takes the step that `label` names. `NoStep`: there is none from this state, as for a guest that has ended.
     /// `NoMemory`: memory is wanting, which is so at Instr, Fetch, Move, Mark and Leave; at Effect, Clock and Interrupt of the
-    /// calls that make bytes or keep something; at Hold where one more hold can't be counted; and at Queue where all places
-    /// of the queue are taken. After either, the state is as it was.
+    /// calls that make bytes or keep something; at Hold where one more hold can't be counted; and at Queue and PiLock where as
+    /// many wait as there is room for. After either, the state is as it was.
     pub fn step(&mut self, alloc: Global, label: &Label) -> Result<(), LxRefusal>
         ensures steps { Steps (LStep self.old.state label.now) self.old.state self.new.state result }
         ensures decided { IsDecidedAt label.now result }

@@ -7,16 +7,17 @@ ghost use Rattle.std.specs.Option.{option_map};
 ghost use Rattle.lx_machine.specs.Shape.{stage_of};
 ghost use Rattle.lx_machine.specs.Kill.{send_whole};
 ghost use Rattle.lx_machine.specs.Table.{rules_at};
-ghost use Rattle.lx_step.specs.Effects.{all_part};
 ghost use Rattle.lx_machine.specs.Whole.{call_put};
 ghost use Rattle.lx_machine.specs.Lists.{bind};
 ghost use Rattle.lx_machine.specs.Step.{in_call};
 ghost use Rattle.lx_machine.specs.Threads.{with_call, without_call};
 ghost use Rattle.lx_step.specs.CallSteps.{whole_effect_at};
 ghost use Rattle.lx_step.specs.Outcomes.{WholeGoes};
-ghost use Rattle.lx_step.specs.Wholes.{whole_at, taken_of, taken_at, call_out};
-ghost use Rattle.lx_step.specs.Steps.{IsDecided, Steps};
-ghost use Rattle.lx_step.specs.Wants.{WantsIn, effect_makes};
+ghost use Rattle.lx_step.specs.Wholes.{all_part, whole_at, taken_of, taken_at, call_out};
+ghost use Rattle.lx_call_steps.specs.Makes.{effect_makes};
+ghost use Rattle.lx_call_steps.specs.Outcomes.{IsDecided};
+ghost use Rattle.lx_step.specs.Steps.{Steps};
+ghost use Rattle.lx_step.specs.Wants.{WantsIn};
 
 use crate::slots::place_of;
 use linux_abi::Call;
@@ -25,7 +26,8 @@ use lx_clones::clones::{cloned, get_robust_list};
 use lx_machine::calls::{LxCall, Stage};
 use lx_machine::refusal::LxRefusal;
 use lx_machine::signals::Sending;
-use lx_machine::state::{LinuxState, Slot, THREADS};
+use lx_machine::state::{LinuxState, Slot};
+use lx_machine::thread_table::Threads;
 use lx_machine::threads::LxThread;
 use lx_signal_calls::actions::sigaction;
 use lx_signals::sending::{
@@ -62,21 +64,28 @@ fn effect_as(
 {
     match kind {
         Some(Call::Clone) => {
-            cloned(alloc, &mut state.threads, &mut state.next_tid, mask, call)?;
+            cloned(
+                alloc,
+                state.rules,
+                &mut state.threads,
+                &mut state.next_tid,
+                mask,
+                call,
+            )?;
         }
-        Some(Call::GetRobustList) => get_robust_list(alloc, &state.threads, robust_head, call)?,
+        Some(Call::GetRobustList) => get_robust_list(alloc, state.threads.as_slice(), robust_head, call)?,
         Some(Call::Kill) => {
-            let sending = kill_sending(queued(&state.threads, &state.pending), call);
+            let sending = kill_sending(queued(state.threads.as_slice(), &state.pending), call);
             return send(state, call, sending);
         }
         Some(Call::Tkill) => {
-            let count = queued(&state.threads, &state.pending);
-            let sending = tkill_sending(&state.threads, count, call);
+            let count = queued(state.threads.as_slice(), &state.pending);
+            let sending = tkill_sending(state.threads.as_slice(), count, call);
             return send(state, call, sending);
         }
         Some(Call::Tgkill) => {
-            let count = queued(&state.threads, &state.pending);
-            let sending = tgkill_sending(&state.threads, count, call);
+            let count = queued(state.threads.as_slice(), &state.pending);
+            let sending = tgkill_sending(state.threads.as_slice(), count, call);
             return send(state, call, sending);
         }
         Some(Call::RtSigaction) => {
@@ -121,12 +130,11 @@ fn take_from_place(place: &mut Option<LxThread>) -> Option<Taken>
 }
 
 /// Takes the call out of the thread in a slot, if there is one in a call.
-#[tactic(auto, using(crate::proofs::Instructed::got, crate::proofs::Instructed::not_got, crate::proofs::WholeStepped::set_past))]
-fn take_call(threads: &mut [Option<LxThread>; THREADS], slot: Slot) -> Option<Taken>
+fn take_call(threads: &mut Threads, slot: Slot) -> Option<Taken>
     ensures taken { result ≡ taken_at threads.old slot }
     ensures left { threads.new ≡ call_out threads.old slot }
 {
-    take_from_place(&mut threads[slot.index()])
+    take_from_place(threads.place(slot))
 }
 
 /// A thread stands so in this call, if there is one.
@@ -139,11 +147,10 @@ fn put_in_place(place: &mut Option<LxThread>, call: LxCall)
 }
 
 /// The thread in a slot, if there is one, stands so in this call.
-#[tactic(auto, using(crate::proofs::Instructed::got, crate::proofs::Instructed::not_got, crate::proofs::WholeStepped::set_past))]
-fn put_call(threads: &mut [Option<LxThread>; THREADS], slot: Slot, call: LxCall)
+fn put_call(threads: &mut Threads, slot: Slot, call: LxCall)
     ensures { threads.new ≡ call_put threads.old slot call }
 {
-    put_in_place(&mut threads[slot.index()], call);
+    put_in_place(threads.place(slot), call);
 }
 
 /// What such a call does, where Effect comes next.

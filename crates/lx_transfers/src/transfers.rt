@@ -1,19 +1,15 @@
-//! The steps of read(2), write(2), readv(2) and writev(2) that hold an open file, give it back, and move bytes.
-ghost use Rattle.std.specs.Prelude.{◌≡◌, true, false, Some, None, IfErr, OnErr, OnOk};
-ghost use Rattle.lx_machine.specs.Move.{MakesTransfer, interrupted, interrupted_answer, may_restart, move_file, transferred};
-ghost use Rattle.lx_machine.specs.Read.{with_counter};
+//! The hold of the open file of a transfer, and how a move ends (read(2), write(2), readv(2)).
+ghost use Rattle.std.specs.Prelude.{IfErr, None, OnErr, OnOk, Some, true, ◌≡◌};
+ghost use Rattle.lx_machine.specs.Move.{MakesTransfer};
 ghost use Rattle.lx_machine.specs.Transfers.{direction_refusal, ends_refused, ends_with, gives_back, has_most_holds, held, hold_file, hold_given_back, is_held_most, is_read, transfer_outcome, waits};
 
-use crate::reads::read_move;
-use crate::writes::write_move;
-use linux_abi::{Call, LinuxErrno, answer};
-use lx_files::files::{give_back, hold_once, numbered_at, place_at, set_place};
-use lx_files::interests::arm_on;
+use linux_abi::{Call, LinuxErrno};
+use lx_files::files::{give_back, hold_once, numbered_at};
+use lx_files::lists::place_at;
 use lx_machine::buffer::NoMemory;
 use lx_machine::calls::LxCall;
-use lx_machine::files::{Counter, FileKind, Files, NumberedFile};
+use lx_machine::files::{FileKind, Files, NumberedFile};
 use lx_machine::refusal::LxRefusal;
-use std::alloc::Global;
 
 /// Whether the call reads.
 pub(crate) fn is_read(call: &LxCall) -> bool
@@ -99,14 +95,6 @@ pub fn drop_hold(files: &mut Files, call: &mut LxCall) -> Result<(), LxRefusal>
     }
 }
 
-/// A counter after a read or a write, which arms the interests in it.
-pub(crate) fn set_counter(files: &mut Files, number: u32, counter: Counter)
-    ensures { files.new ≡ with_counter files.old number counter }
-{
-    set_place(&mut files.counters, number, Some(counter));
-    arm_on(files, FileKind::Counter(number));
-}
-
 /// A move that ends with this number.
 pub(crate) fn end_with(files: &mut Files, call: &mut LxCall, file: u32, n: u64)
     ensures { ends_with files.old call.old file n ≡ Some (transfer_outcome files.new call.new) }
@@ -132,69 +120,4 @@ pub(crate) fn wait(files: &mut Files, call: &mut LxCall, f: NumberedFile) -> Res
     }
     end_refused(files, call, f.number, LinuxErrno::EAGAIN);
     Ok(false)
-}
-
-/// Moves bytes between the call and this open file.
-fn move_file(
-    alloc: Global,
-    files: &mut Files,
-    call: &mut LxCall,
-    f: NumberedFile,
-) -> Result<bool, LxRefusal>
-    ensures { MakesTransfer (move_file files.old call.old f) files.old call.old files.new call.new result }
-{
-    if is_read(call) {
-        read_move(alloc, files, call, f)
-    } else {
-        write_move(files, call, f)
-    }
-}
-
-/// Moves bytes between the call and its open file (read(2), write(2), pipe(7), eventfd(2)), and tells whether the thread
-/// gets SIGPIPE. Not enabled: it has to wait, or holds no open file that bytes move to or from. Then, and where memory is
-/// wanting, nothing changes.
-pub fn move_bytes(alloc: Global, files: &mut Files, call: &mut LxCall) -> Result<bool, LxRefusal>
-    ensures { MakesTransfer (transferred files.old call.old) files.old call.old files.new call.new result }
-{
-    let Some(file) = call.held else {
-        return Err(LxRefusal::NoStep);
-    };
-    match numbered_at(files, file) {
-        Some(f) => move_file(alloc, files, call, f),
-        None => Err(LxRefusal::NoStep),
-    }
-}
-
-/// What the call answers where a signal ends its wait.
-fn interrupted_answer(call: &LxCall) -> u64
-    ensures { result ≡ interrupted_answer call.now }
-{
-    if call.moved > 0 {
-        call.moved
-    } else {
-        answer(LinuxErrno::EINTR)
-    }
-}
-
-/// Interrupt: a signal ends the wait of a transfer (signal(7)), which answers what it has moved before, and else EINTR. Not
-/// enabled: it holds no open file; then nothing changes.
-pub fn interrupt(files: &mut Files, call: &mut LxCall) -> Result<(), LxRefusal>
-    ensures ok { OnOk result (interrupted files.old call.old ≡ Some (transfer_outcome files.new call.new)) }
-    ensures err { OnErr result (interrupted files.old call.old ≡ None) }
-    ensures kept { OnErr result ((files.new ≡ files.old) × (call.new ≡ call.old)) }
-    ensures no_step { IfErr result (λ e. e ≡ LxRefusal.NoStep) }
-{
-    let Some(file) = call.held else {
-        return Err(LxRefusal::NoStep);
-    };
-    let n = interrupted_answer(call);
-    end_with(files, call, file, n);
-    Ok(())
-}
-
-/// Whether a transfer that a signal has ended may start again (signal(7), SA_RESTART): it has moved nothing.
-pub fn may_restart(call: &LxCall) -> bool
-    ensures { result ≡ may_restart call.now }
-{
-    call.moved == 0
 }

@@ -1,10 +1,6 @@
-//! Areas, pages and the process of the FreeBSD kernel, as scripts of cases make and call them.
+//! The process of the FreeBSD kernel, as scripts of cases make and call it.
 #![tactic(auto)]
 
-pub mod areas;
-pub mod memories;
 pub mod processes;
-mod rights;
-pub mod shards;
 pub mod signals;
 mod slots;

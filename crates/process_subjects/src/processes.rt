@@ -1,7 +1,5 @@
 //! The process (`bsd_proc`).
 
-use crate::areas::{AreasCall, areas_call, play_areas};
-use crate::rights::rights_found;
 use crate::signals::{SignalCall, play_signals, signal_call};
 use crate::slots::{SlotCall, play_slot, slot_call};
 use bsd_abi::BsdErrno;
@@ -9,6 +7,8 @@ use bsd_proc::{GuestEnd, Process};
 use case_words::answers::{Answer, Refusal};
 use case_words::arguments::Arguments;
 use case_words::subject::Subject;
+use memory_subjects::areas::{AreasCall, areas_call, play_areas};
+use memory_subjects::rights::rights_found;
 use std::alloc::{AllocError, Global};
 use vm_areas::Areas;
 

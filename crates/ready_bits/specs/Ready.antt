@@ -1,7 +1,7 @@
 -- Which events hold of an open file, as bits of epoll: EPOLLIN 1, EPOLLOUT 4, EPOLLERR 8, EPOLLHUP 16.
 -- Source: epoll_ctl(2), poll(2), pipe(7) (PIPE_BUF and the capacity of a pipe), eventfd(2). That the input always has
 -- EPOLLHUP, and a console room the capacity of a pipe, is this project's own.
-use Rattle.std.specs.Prelude.{ℕ, ◌+◌, ◌-◌, ◌^◌, Bool, true, false, nat_lt, nat_le, bit_or}
+use Rattle.std.specs.Prelude.{ℕ, ◌+◌, ◌-◌, ◌^◌, Bool, true, false, nat_lt, nat_le}
 use Rattle.std.proofs.Math.Bool.{not}
 
 -- an event, where it holds
@@ -32,7 +32,3 @@ console_events held = if_so (has_space held) 4
 -- a counter: EPOLLIN above 0, EPOLLOUT below 2^64 - 2
 abbrev pub counter_events : ℕ → ℕ
 counter_events value = if_so (nat_lt 0 value) 1 + if_so (nat_lt value (2 ^ 64 - 2)) 4
-
--- what an interest is told of: what it asks for, and EPOLLERR and EPOLLHUP unasked
-abbrev pub wanted : ℕ → ℕ
-wanted asked = bit_or asked 24

@@ -3,7 +3,7 @@
 #![tactic(auto)]
 
 ghost use Rattle.std.specs.Prelude.{◌≡◌, ◌≤◌};
-ghost use Rattle.ready_bits.specs.Ready.{if_so, has_space, input_events, read_end_events, write_end_events, console_events, counter_events, wanted};
+ghost use Rattle.ready_bits.specs.Ready.{if_so, has_space, input_events, read_end_events, write_end_events, console_events, counter_events};
 
 use linux_abi::epoll::{EPOLLERR, EPOLLHUP, EPOLLIN, EPOLLOUT};
 
@@ -12,9 +12,6 @@ const ROOM: usize = 65_536;
 
 /// How many bytes have to be free where a write is ready (pipe(7), PIPE_BUF).
 const SPACE: usize = 4096;
-
-/// EPOLLERR and EPOLLHUP, which are reported unasked.
-pub const UNASKED: u32 = EPOLLERR + EPOLLHUP;
 
 // The event, where it holds.
 fn if_so(holds: bool, event: u32) -> u32
@@ -64,11 +61,4 @@ pub fn counter_events(value: u64) -> u32
     ensures { result ≡ counter_events value }
 {
     if_so(value > 0, EPOLLIN) + if_so(value < u64::MAX - 1, EPOLLOUT)
-}
-
-/// What an interest is told of: what it asks for, EPOLLERR and EPOLLHUP.
-pub fn wanted(asked: u32) -> u32
-    ensures { result ≡ wanted asked }
-{
-    asked | UNASKED
 }

@@ -1,7 +1,7 @@
 //! How a script is read.
 ghost use Rattle.std.specs.Prelude.{◌<◌, ◌≤◌, length, IfOk, IfErr, IsOk};
 
-use crate::script::{Guest, Line, Play, Script, Statement};
+use crate::script::{Guest, Line, Play, Rules, Script, Statement};
 use crate::statements::statement;
 use crate::tokens::{bytes, code_word, number};
 use std::alloc::{AllocError, Global};
@@ -19,6 +19,7 @@ pub enum What {
     NotASignal,
     NotAStep,
     NotAnEnd,
+    NotRules,
     NotAStatement,
     /// The first line is not `run` and a name.
     NoName,
@@ -61,6 +62,7 @@ impl fmt::Display for What {
             What::NotASignal => "not a signal",
             What::NotAStep => "not a step",
             What::NotAnEnd => "not an end",
+            What::NotRules => "neither rules 1 nor 2",
             What::NotAStatement => "not a statement",
             What::NoName => "no name of the run",
             What::NoGuest => "no guest",
@@ -94,11 +96,12 @@ fn words_of<'a>(alloc: Global, line: &'a str) -> Result<Vec<&'a str>, AllocError
     Ok(words)
 }
 
-/// A guest that is named `guest`, without code.
-fn new_guest(alloc: Global) -> Result<Guest, AllocError> {
+/// A guest that is named `guest`, by these rules and without code.
+fn new_guest(alloc: Global, rules: Rules) -> Result<Guest, AllocError> {
     let mut words = Vec::new(alloc);
     words.push(String::from_str(alloc, "guest")?)?;
     Ok(Guest {
+        rules,
         code: Vec::new(alloc),
         words,
         input: Vec::new(alloc),
@@ -221,6 +224,15 @@ fn read_in_guest(
     read_statement(alloc, guest, number, words)
 }
 
+/// The rules of this number.
+fn rules_of(number: &str) -> Result<Rules, What> {
+    match number {
+        "1" => Ok(Rules::One),
+        "2" => Ok(Rules::Two),
+        _ => Err(What::NotRules),
+    }
+}
+
 /// A line that has words.
 fn read_line(
     alloc: Global,
@@ -230,7 +242,11 @@ fn read_line(
 ) -> Result<(), What> {
     if let ["guest"] = words {
         is_last_whole(script)?;
-        push(&mut script.guests, new_guest(alloc)?)?;
+        push(&mut script.guests, new_guest(alloc, script.rules)?)?;
+        return Ok(());
+    }
+    if let ["rules", number] = words {
+        script.rules = rules_of(number)?;
         return Ok(());
     }
     match script.guests.last_mut() {
@@ -278,6 +294,7 @@ fn read_lines(alloc: Global, name: &str, lines: &[&str]) -> Result<Script, Scrip
     ensures fault { IfErr result (λ fault. fault.line ≤ length lines.now) }
 {
     let mut script = Script {
+        rules: Rules::One,
         guests: Vec::new(alloc),
     };
     for place in 0..lines.len() {

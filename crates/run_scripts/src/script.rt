@@ -55,6 +55,8 @@ pub enum Step {
     WakeOp,
     Mark,
     Release,
+    PiLock,
+    PiUnlock,
     Resume,
     Expire,
     Interrupt(Sent),
@@ -166,17 +168,26 @@ pub struct Play {
     pub lines: Vec<Line>,
 }
 
-/// A guest: its code, its name and arguments, what it can read, and its plays.
+/// The rules by which a guest runs, by their number.
+#[derive(Clone, Copy)]
+pub enum Rules {
+    One,
+    Two,
+}
+
+/// A guest: its rules, its code, its name and arguments, what it can read, and its plays.
 #[derive(Drop)]
 pub struct Guest {
+    pub rules: Rules,
     pub code: Vec<u32>,
     pub words: Vec<String>,
     pub input: Vec<u8>,
     pub plays: Vec<Play>,
 }
 
-/// A script: guests, which are played one after the other.
+/// A script: guests, which are played one after the other, and the rules of a guest that would come next.
 #[derive(Drop)]
 pub struct Script {
+    pub rules: Rules,
     pub guests: Vec<Guest>,
 }

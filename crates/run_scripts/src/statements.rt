@@ -21,6 +21,8 @@ fn plain_step(name: &str) -> Result<Step, What> {
         "wake-op" => Ok(Step::WakeOp),
         "mark" => Ok(Step::Mark),
         "release" => Ok(Step::Release),
+        "pi-lock" => Ok(Step::PiLock),
+        "pi-unlock" => Ok(Step::PiUnlock),
         "resume" => Ok(Step::Resume),
         "expire" => Ok(Step::Expire),
         "start" => Ok(Step::Start),

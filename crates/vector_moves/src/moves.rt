@@ -1,18 +1,18 @@
 //! Moves of vector registers.
-ghost use Rattle.std.specs.Prelude.{◌≡◌, ◌<◌, ◌*◌, ◌^◌, true, drop, pos};
-ghost use Rattle.std.specs.Int.{from_le_bytes, w128};
-ghost use Rattle.a64_model.specs.ExecLoadsStores.{misaligned, with_base};
-ghost use Rattle.a64_model.specs.Exec.{needed, after, faulted, next, IsAnswer};
+ghost use Rattle.std.specs.Prelude.{◌≡◌, ◌<◌, ◌^◌, true};
+ghost use Rattle.a64_model.specs.Exec.{needed, after, next, IsAnswer};
 ghost use Rattle.a64_model.specs.Memory.{low_part};
 ghost use Rattle.a64_model.specs.VectorMoves.{vector, with_vector, vector_address, vector_bytes, vector_access, need_vector_access, with_loaded_vector, load_store_vector, vector_pair_address, vector_pair_bytes, vector_pair_access, need_vector_pair, with_vector_pair, load_store_vector_pair, repeated, duplicated, duplicate};
 ghost use Rattle.a64_model.specs.VectorRows.{is_vector};
 ghost use Rattle.a64_model.specs.Widths.{HasWidths};
 
+use crate::records::first_vector;
 use a64_alu::shifts::sign_extended;
-use a64_model::access::{Access, Answer, Fault, Next};
+use a64_model::access::{Access, Answer, Next};
 use a64_model::instr::{Duplicate, Instr, LoadStoreVector, LoadStoreVectorPair};
 use a64_model::operands::{Reg, Size};
 use a64_model::regs::Regs;
+use a64_step::traps::{faulted, with_base};
 
 /// Whether an instruction is of a row that moves vector registers.
 pub fn is_vector(instr: Instr) -> bool
@@ -38,27 +38,6 @@ fn set_vector(regs: &mut Regs, r: Reg, value: u128)
     regs.v[usize::from(r.number)] = value;
 }
 
-/// The trap of an access that alignment refuses: SIGBUS, 7, with code 1.
-fn misaligned(address: u64) -> Next
-    ensures { result ≡ misaligned address }
-{
-    Next::Trap {
-        signal: 7,
-        code: 1,
-        address,
-    }
-}
-
-/// An access by a base, which as the stack pointer has to be a multiple of 16.
-fn with_base(regs: &Regs, rn: Reg, access: Access) -> Result<Access, Next>
-    ensures { result ≡ with_base regs.now rn access }
-{
-    if rn.number == 31 && regs.sp % 16 != 0 {
-        return Err(misaligned(regs.sp));
-    }
-    Ok(access)
-}
-
 /// The base plus so many accesses.
 fn vector_address(regs: &Regs, i: LoadStoreVector) -> u64
     requires { i.imm12 < 2 ^ 12 }
@@ -80,46 +59,10 @@ fn vector_pair_address(regs: &Regs, i: LoadStoreVectorPair) -> u64
 fn vector_pair_bytes(a: u128, b: u128) -> [u8; 32]
     ensures { result ≡ vector_pair_bytes a b }
 {
-    let [
-        a0,
-        a1,
-        a2,
-        a3,
-        a4,
-        a5,
-        a6,
-        a7,
-        a8,
-        a9,
-        a10,
-        a11,
-        a12,
-        a13,
-        a14,
-        a15,
-    ] = a.to_le_bytes();
-    let [
-        b0,
-        b1,
-        b2,
-        b3,
-        b4,
-        b5,
-        b6,
-        b7,
-        b8,
-        b9,
-        b10,
-        b11,
-        b12,
-        b13,
-        b14,
-        b15,
-    ] = b.to_le_bytes();
-    [
-        a0, a1, a2, a3, a4, a5, a6, a7, a8, a9, a10, a11, a12, a13, a14, a15, b0, b1, b2, b3, b4,
-        b5, b6, b7, b8, b9, b10, b11, b12, b13, b14, b15,
-    ]
+    let mut bytes = [0; 32];
+    bytes[..16].copy_from_slice(&a.to_le_bytes());
+    bytes[16..].copy_from_slice(&b.to_le_bytes());
+    bytes
 }
 
 /// The 16 bytes of a register, and zeros.
@@ -189,32 +132,12 @@ pub fn need_vector(regs: &Regs, instr: Instr) -> Result<Access, Next>
     }
 }
 
-/// The number in the first 16 bytes.
-fn first_loaded(bytes: &[u8; 32]) -> u128
-    ensures { result ≡ from_le_bytes w128 bytes.now }
-{
-    u128::from_le_bytes([
-        bytes[0], bytes[1], bytes[2], bytes[3], bytes[4], bytes[5], bytes[6], bytes[7], bytes[8],
-        bytes[9], bytes[10], bytes[11], bytes[12], bytes[13], bytes[14], bytes[15],
-    ])
-}
-
-/// The number in the last 16 bytes.
-fn second_loaded(bytes: &[u8; 32]) -> u128
-    ensures { result ≡ from_le_bytes w128 (drop 16 bytes.now) }
-{
-    u128::from_le_bytes([
-        bytes[16], bytes[17], bytes[18], bytes[19], bytes[20], bytes[21], bytes[22], bytes[23],
-        bytes[24], bytes[25], bytes[26], bytes[27], bytes[28], bytes[29], bytes[30], bytes[31],
-    ])
-}
-
 /// LDR and STR of a Q register.
 fn load_store(regs: &mut Regs, i: LoadStoreVector, answer: Answer)
     ensures { regs.new ≡ load_store_vector regs.old i answer }
 {
     if let Answer::Bytes(bytes) = answer {
-        set_vector(regs, i.rt, first_loaded(&bytes));
+        set_vector(regs, i.rt, first_vector(&bytes));
     }
     regs.advance();
 }
@@ -224,8 +147,8 @@ fn load_store_pair(regs: &mut Regs, i: LoadStoreVectorPair, answer: Answer)
     ensures { regs.new ≡ load_store_vector_pair regs.old i answer }
 {
     if let Answer::Bytes(bytes) = answer {
-        set_vector(regs, i.rt, first_loaded(&bytes));
-        set_vector(regs, i.rt2, second_loaded(&bytes));
+        set_vector(regs, i.rt, first_vector(&bytes));
+        set_vector(regs, i.rt2, first_vector(&bytes[16..]));
     }
     regs.advance();
 }
@@ -257,17 +180,6 @@ fn duplicate(regs: &mut Regs, i: Duplicate)
     let value = duplicated(i.size, i.whole, regs.x_zr(i.rn));
     set_vector(regs, i.rd, value);
     regs.advance();
-}
-
-/// The trap of an access that faulted: SIGSEGV, 11, whose code is judged later.
-fn faulted(fault: Fault) -> Next
-    ensures { result ≡ faulted fault }
-{
-    Next::Trap {
-        signal: 11,
-        code: 0,
-        address: fault.address,
-    }
 }
 
 /// Ends an instruction that moves vector registers, whose access had this answer: writes the registers, and tells what comes

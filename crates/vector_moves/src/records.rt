@@ -52,7 +52,7 @@ pub fn frame_record(regs: &Regs) -> [u8; 528]
 }
 
 /// The number in the first 16 bytes.
-fn first_vector(bytes: &[u8]) -> u128
+pub(crate) fn first_vector(bytes: &[u8]) -> u128
     requires { 16 ≤ length bytes.now }
     ensures { result ≡ from_le_bytes w128 bytes.now }
 {

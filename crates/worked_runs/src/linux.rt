@@ -1,4 +1,6 @@
 //! Scripts on the Linux machine.
+ghost use Rattle.std.specs.Prelude.{◌≤◌};
+
 use code_image::image_of;
 use elf_image::read_image;
 use linux_abi::LinuxSig;
@@ -14,7 +16,7 @@ use lx_scheduler::schedule::{SLOTS, Schedule};
 use lx_scheduler::turns::{move_of, step_of};
 use outside::MemSink;
 use run_scripts::playable::{InCall, NoStart, Playable, ThreadSeen};
-use run_scripts::script::{End, Guest, Pending, Register, Sent, Side, Step, Turns};
+use run_scripts::script::{End, Guest, Pending, Register, Rules, Sent, Side, Step, Turns};
 use std::alloc::{AllocError, Global};
 
 /// The bytes of a granule, which an exclusive load marks.
@@ -24,6 +26,16 @@ const GRANULE: u64 = 16;
 #[derive(Drop)]
 pub struct LinuxGuest {
     machine: Machine,
+}
+
+/// The number of rules.
+fn rules_number(rules: Rules) -> u8
+    ensures { (1 ≤ result) × (result ≤ 2) }
+{
+    match rules {
+        Rules::One => 1,
+        Rules::Two => 2,
+    }
 }
 
 /// How a guest has ended.
@@ -83,6 +95,8 @@ fn plain_label(slot: u8, step: Step) -> Option<Label> {
         Step::WakeOp => Some(Label::WakeOp(slot)),
         Step::Mark => Some(Label::Mark(slot)),
         Step::Release => Some(Label::Release(slot)),
+        Step::PiLock => Some(Label::PiLock(slot)),
+        Step::PiUnlock => Some(Label::PiUnlock(slot)),
         Step::Resume => Some(Label::Resume(slot)),
         Step::Expire => Some(Label::Expire(slot)),
         Step::Start => Some(Label::Start(slot)),
@@ -159,14 +173,14 @@ impl Playable for LinuxGuest {
         let Ok(file) = image_of(alloc, &guest.code) else {
             return Err(NoStart::NoMemory);
         };
-        let Ok(input) = guest.input.clone() else {
-            return Err(NoStart::NoMemory);
-        };
         match read_image(alloc, &file) {
-            Ok(image) => match Machine::start(alloc, &image, &guest.words, input) {
-                Ok(machine) => Ok(LinuxGuest { machine }),
-                Err(_) => Err(NoStart::NoMemory),
-            },
+            Ok(image) => {
+                let rules = rules_number(guest.rules);
+                match Machine::start(alloc, &image, &guest.words, &guest.input, rules) {
+                    Ok(machine) => Ok(LinuxGuest { machine }),
+                    Err(_) => Err(NoStart::NoMemory),
+                }
+            }
             Err(_) => Err(NoStart::Refused),
         }
     }

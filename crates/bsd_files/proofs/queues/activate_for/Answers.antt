@@ -1,5 +1,5 @@
 use Rattle.std.proofs.Common.{◌∙◌}
-use Rattle.bsd_files.specs.Kinds.{kind_out}
+use Rattle.open_files.specs.Kinds.{kind_out}
 use Rattle.bsd_files.proofs.Activity.{no_queues, step_queues}
 use Rattle.bsd_files.proofs.queues.activate_for.Goals as goal
 

@@ -1,6 +1,6 @@
 use Rattle.std.proofs.Common.{◌≡◌, take, map}
 use Rattle.std.specs.Option.{option_map}
-use Rattle.bsd_files.specs.Kinds.{kind_out}
+use Rattle.open_files.specs.Kinds.{kind_out}
 use Rattle.bsd_files.specs.Ops.{activated_for}
 use Rattle.bsd_files.proofs.queues.activate_for.Given as goal
 

@@ -1,5 +1,5 @@
 use Rattle.std.proofs.Common.{ap, ◌∙◌, min}
-use Rattle.bsd_files.specs.PlainParts.{plain_in}
+use Rattle.open_files.specs.PlainParts.{plain_in}
 use Rattle.bsd_files.proofs.Reporting.{report_length, report_buffer}
 use Rattle.bsd_files.proofs.reports.report.Goals as goal
 

@@ -1,7 +1,7 @@
 -- Each call keeps a waiter of another thread.
 use Rattle.std.proofs.Common.{rules}
-use Rattle.arrayvec.proofs.ArrayVecLemmas.{filter-from_retain}
+use Rattle.std.proofs.lemmas.Fn.{filter_same}
 use Rattle.lx_machine.proofs.queue.retain_others.Goals as goal
 
-pub returns : goal.returns
-returns c = filter-from_retain _ _ _ (λ x b f' y called. search rules) _ _ c.retain.ensures.filtered
+pub returns-clause-items : goal.returns-clause-items
+returns-clause-items c = filter_same _ _ _ (λ x b f k. search rules) _ _ c.retain.ensures.filtered

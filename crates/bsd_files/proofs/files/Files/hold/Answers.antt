@@ -1,6 +1,10 @@
 use Rattle.std.proofs.Common.{arith, ap, sym, subst, ◌≡◌, ◌<◌}
+use Rattle.std.specs.Prelude.{List, Option}
 use Rattle.lx_machine.specs.Lists.{at_place}
-use Rattle.bsd_files.specs.Calls.{holds_in, holds_of}
+use Rattle.lx_machine.specs.declared.files.OpenFile.{OpenFile}
+use Rattle.open_files.proofs.Keeping.{file_changed}
+use Rattle.open_files.specs.Named.{AreKept, holds_in, holds_of}
+use Rattle.open_files.specs.PlainParts.{plain_in}
 use Rattle.bsd_files.specs.State.{FilesState}
 use Rattle.bsd_files.proofs.Holds.{hold_within}
 use Rattle.bsd_files.proofs.files.Files.hold.Goals as goal
@@ -11,3 +15,14 @@ held_once_more-requires c =
     let e : c.in-Some.f.holds ≡ holds_of (at_place c.self.inside.plain.files c.args.file) = ap holds_of c.in-Some.ensures in
     let few = subst (λ (S : FilesState). holds_in S.plain < 128) (sym c.self.view_is) c.requires.few in
     omega (arith, h, e, few)
+
+pub invariant_of-self : goal.invariant_of-self
+invariant_of-self c =
+    let few = subst (λ (S : FilesState). holds_in S.plain < 128) (sym c.self.view_is) c.requires.few in
+    let more = ap (λ (f : OpenFile). f.holds) c.held_once_more.ensures in
+    record {
+      events = c.self.invariant.events;
+      kept = subst (λ (fs : List (Option OpenFile)). AreKept c.self.inside.plain.descriptors fs c.self.inside.plain.counters) (sym c.set_place.ensures)
+          (file_changed (plain_in c.self.inside.plain) c.args.file 1 c.in-Some.f c.held_once_more.result c.self.invariant.kept (sym c.in-Some.ensures)
+          (ap (λ (f : OpenFile). f.kind) c.held_once_more.ensures) (omega (arith, more)) (omega (arith, few)));
+    }

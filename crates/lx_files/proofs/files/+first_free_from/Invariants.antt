@@ -1,5 +1,0 @@
-use Rattle.std.proofs.Common.{length}
-use Rattle.lx_files.proofs.files.+first_free_from.Given as goal
-
-abbrev pub decreases-first_free_from : goal.decreases-first_free_from
-decreases-first_free_from g l = length l.places.now
