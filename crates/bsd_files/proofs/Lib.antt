@@ -1,4 +1,3 @@
-pub mod Activity
 pub mod Holds
 pub mod Kept
 pub mod Looking

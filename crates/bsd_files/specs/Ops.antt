@@ -3,12 +3,10 @@ use Rattle.std.specs.Prelude.{ℕ, ◌==◌, Bool, ◌&&◌, if◌then◌else◌
 use Rattle.std.proofs.Math.Bool.{not}
 use Rattle.std.specs.List.{list_any}
 use Rattle.std.specs.Option.{option_map}
-use Rattle.kqueue_core.specs.Changes.{activated, without_file}
+use Rattle.kqueue_core.specs.Changes.{activated_those, without_file}
 use Rattle.kqueue_core.specs.Queues.{Queue}
-use Rattle.kqueue_core.specs.Watches.{activated_watch}
 use Rattle.kqueue_core.specs.declared.knotes.Filter.{Filter}
 use Rattle.kqueue_core.specs.declared.knotes.Filter.TheVariants.{Read, Write}
-use Rattle.kqueue_core.specs.declared.knotes.Watch.{Watch}
 use Rattle.lx_machine.specs.Files.{held_once_less, names}
 use Rattle.lx_machine.specs.Interests.{is_open_of}
 use Rattle.lx_machine.specs.Lists.{at_place, with_place, without_place}
@@ -19,17 +17,13 @@ use Rattle.lx_machine.specs.declared.files.OpenFile.{OpenFile}
 use Rattle.lx_machine.specs.declared.label.LxSide.{LxSide}
 use Rattle.lx_machine.specs.declared.files.FileKind.TheVariants as kind
 
--- an interest, its knote of this filter active where its open file is this
-abbrev pub if_activated : FileKind → Filter → List (Option OpenFile) → Watch → Watch
-if_activated k f files w = if is_open_of k (at_place files w.file) then activated_watch f w else w
+-- whether the open file of a number is this
+abbrev pub is_this : FileKind → List (Option OpenFile) → ℕ → Bool
+is_this k files file = is_open_of k (at_place files file)
 
--- a queue after `activate` for each open file that is this
+-- a queue after the knotes of the open files that are this became active
 abbrev pub activated_for : FileKind → Filter → List (Option OpenFile) → Queue → Queue
-activated_for k f files q = record q { watches = map (if_activated k f files) q.watches }
-
--- a queue after `activate` for one open file
-abbrev pub activated_in_queue : ℕ → Filter → Queue → Queue
-activated_in_queue file f q = record q { watches = activated file f q.watches }
+activated_for k f files q = record q { watches = activated_those (is_this k files) f q.watches }
 
 -- a queue after `drop_file`
 abbrev pub left_by : ℕ → Queue → Queue

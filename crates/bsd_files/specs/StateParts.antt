@@ -6,9 +6,9 @@ use Rattle.open_files.specs.Named.{IsKept}
 use Rattle.open_files.specs.PlainParts.{plain_in}
 
 abbrev pub state_in : Inside → FilesState
-state_in f = record { plain = plain_in f.plain; queues = f.queues }
+state_in f = record { plain = plain_in f.plain.value; queues = f.queues }
 
 -- there is room for the events of a whole queue, and places for all open files that are named
 pub record IsSound (f : Inside) : Type 0 where
   pub events : 512 ≤ vec_len f.events
-  pub kept : IsKept (plain_in f.plain)
+  pub kept : IsKept (plain_in f.plain.value)

@@ -7,6 +7,7 @@ ghost use Rattle.lx_machine.specs.Descriptors.{lowest_from};
 ghost use Rattle.lx_machine.specs.Files.{closed, descriptor, given_back, with_descriptor};
 ghost use Rattle.lx_machine.specs.Interests.{drained_side, side_holds};
 ghost use Rattle.lx_machine.specs.Lists.{at_place, first_free};
+ghost use Rattle.lx_machine.specs.Start.{first_files};
 ghost use Rattle.bsd_files.specs.Calls as calls;
 ghost use Rattle.open_files.specs.Kinds.{is_wait, kind_out, side_out};
 ghost use Rattle.bsd_files.specs.FileLending.{LendsFileQueue};
@@ -14,7 +15,8 @@ ghost use Rattle.bsd_files.specs.Look.{looked};
 ghost use Rattle.bsd_files.specs.State.{first_state, is_awaited, is_in_flux, queue_at};
 ghost use Rattle.open_files.specs.Making as made;
 ghost use Rattle.open_files.specs.Named.{AllNamed, holds_in};
-ghost use Rattle.open_files.specs.Plain.{named_by, readiness};
+ghost use Rattle.open_files.specs.Plain.{named_by, plain_of, readiness};
+ghost use Rattle.open_files.specs.PlainParts.{plain_in};
 
 use crate::closed::Closed;
 use crate::ends::{close_descriptor, give_back};
@@ -30,10 +32,11 @@ use std::alloc::Global;
 use std::marker::Model;
 
 /// The files of the kernel's model. Contracts see them as a `FilesState`: the Linux machine's files but for the epolls, and the
-/// queues, each at its number. Only `make` takes memory, which is touched as it is used.
+/// queues, each at its number. Only `make` takes memory, which is touched as it is used. What is big lies behind pointers, so that
+/// they are cheap to move.
 #[derive(Drop)]
 pub struct Files {
-    plain: Plain,
+    plain: Box<Plain>,
     queues: Queues,
     // The events of a look at a queue, until they are bytes.
     events: Vec<Event>,
@@ -51,13 +54,24 @@ impl Model for Files {
     ghost invariant = { IsSound };
 }
 
+// The files without the queues at the start, behind a pointer.
+fn first_plain(alloc: Global, input: Vec<u8>) -> Result<Box<Plain>, NoMemory>
+    ensures { IfOk result (λ plain. plain_in plain.value ≡ plain_of (first_files input.items)) }
+{
+    let plain = Plain::make(alloc, input)?;
+    match Box::new(alloc, plain) {
+        Ok(boxed) => Ok(boxed),
+        Err(_) => Err(NoMemory),
+    }
+}
+
 impl Files {
     /// The files at the start: the descriptors 0, 1 and 2 are open, of the input, which has these bytes, and of the two console
     /// rooms. No other call takes memory. `NoMemory` where there is none for them.
     pub fn make(alloc: Global, input: Vec<u8>) -> Result<Files, NoMemory>
         ensures { IfOk result (λ files. files ≡ first_state input.items) }
     {
-        let plain = Plain::make(alloc, input)?;
+        let plain = first_plain(alloc, input)?;
         let queues = Queues::make(alloc)?;
         let Ok(events) = vec![in alloc; Event { bits: 0, user: 0 }; MOST] else {
             return Err(NoMemory);
@@ -345,7 +359,8 @@ impl Files {
         let Some(f) = self.plain.file(call.file) else {
             return FileLook::Wait;
         };
-        let (plain, queues) = (&mut self.plain, &mut self.queues);
+        let plain: &mut Plain = &mut self.plain;
+        let queues = &mut self.queues;
         if let File::Queue(number) = f.file() {
             return match queues.queue_mut(number) {
                 Some(queue) => look_at_queue(queue, plain, call.len, &mut self.events, buffer),

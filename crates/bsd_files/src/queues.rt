@@ -1,16 +1,15 @@
 //! The queues (kqueue(2)), and what an event of an open file does to all of them.
-ghost use Rattle.std.specs.Prelude.{◌≡◌, ◌<◌, ◌^◌, [], length, map, replicate, position, is_none, is_some, IsSome, Some, None, IfOk, IfSome, MatchOption, if◌then◌else◌};
+ghost use Rattle.std.specs.Prelude.{◌≡◌, ◌<◌, ◌^◌, [], length, map, replicate, position, is_none, is_some, IsSome, Some, None, IfOk, IfSome, MatchOption};
 ghost use Rattle.std.specs.Option.{option_map};
 ghost use Rattle.std.specs.List.{list_any};
 ghost use Rattle.std.specs.Borrow.{sem};
-ghost use Rattle.lx_machine.specs.Interests.{is_open_of};
 ghost use Rattle.lx_machine.specs.Lists.{at_place, first_free, with_place, without_place};
 ghost use Rattle.open_files.specs.Kinds.{kind_out};
 ghost use Rattle.bsd_files.specs.Lending.{LendsQueue};
-ghost use Rattle.bsd_files.specs.Ops.{Arm, Leave, activated_for, activated_in_queue, in_queues, left_by};
+ghost use Rattle.bsd_files.specs.Ops.{Arm, Leave, activated_for, in_queues, is_this, left_by};
 ghost use Rattle.bsd_files.specs.State.{has_flux, has_flux_on};
 
-use kqueue_core::{Filter, Kqueue};
+use kqueue_core::{Filter, Kqueue, Those};
 use open_files::numbers::place_at;
 use open_files::open_file::is_open_of;
 use open_files::reused::{Place, close_place, first_free_place};
@@ -24,12 +23,29 @@ pub(crate) const QUEUES: usize = 32;
 /// The place of a queue.
 type QueuePlace = Place<Kqueue>;
 
-// Makes the knotes of an open file and a filter active, in the queue of a place.
-fn activate_in(place: &mut QueuePlace, file: u32, filter: Filter)
-    ensures { place.new ≡ option_map (activated_in_queue file filter) place.old }
+// The open files that are this.
+#[derive(Clone, Copy)]
+struct OpenOf<'a> {
+    kind: File,
+    files: &'a [Option<OpenFile>],
+}
+
+impl Those for OpenOf<'_> {
+    ghost have = { λ those file. is_this (kind_out those.kind) those.files.now file };
+
+    fn have(&self, file: u32) -> bool {
+        is_open_of(self.kind, place_at(self.files, file))
+    }
+}
+
+// Makes the knotes of the open files that are this and of a filter active, in the queue of a place.
+fn activate_in(place: &mut QueuePlace, kind: File, filter: Filter, files: &[Option<OpenFile>])
+    ensures { place.new ≡ option_map (activated_for (kind_out kind) filter files.now) place.old }
 {
     if !place.is_free() {
-        place.get_mut().activate(file, filter);
+        place
+            .get_mut()
+            .activate_those(&OpenOf { kind, files }, filter);
     }
 }
 
@@ -71,12 +87,17 @@ impl Model for Queues {
     ghost invariant = { λ q. (q.is_used ≡ false → q.places.items ≡ replicate 32 None) × (length q.places.items < 2 ^ 32) };
 }
 
-// Makes the knotes of an open file and a filter active, in each queue.
-fn activate_each(places: &mut [QueuePlace], file: u32, filter: Filter)
-    ensures { places.new ≡ map (option_map (activated_in_queue file filter)) places.old }
+// Makes the knotes of the open files that are this and of a filter active, in each queue.
+fn activate_each(
+    places: &mut [QueuePlace],
+    kind: File,
+    filter: Filter,
+    files: &[Option<OpenFile>],
+)
+    ensures { places.new ≡ map (option_map (activated_for (kind_out kind) filter files.now)) places.old }
 {
     for place in places.iter_mut() {
-        activate_in(place, file, filter);
+        activate_in(place, kind, filter, files);
     }
 }
 
@@ -86,32 +107,6 @@ fn drop_file_each(places: &mut [QueuePlace], file: u32)
 {
     for place in places.iter_mut() {
         drop_file_in(place, file);
-    }
-}
-
-// Makes the knotes of an open file and a filter active, in each queue, where the open file is this.
-fn activate_if(
-    places: &mut [QueuePlace],
-    kind: File,
-    filter: Filter,
-    number: u32,
-    file: Option<OpenFile>,
-)
-    ensures { places.new ≡ (if is_open_of (kind_out kind) file then map (option_map (activated_in_queue number filter)) places.old else places.old) }
-{
-    if is_open_of(kind, file) {
-        activate_each(places, number, filter);
-    }
-}
-
-// Makes the knotes of the open files that are this active, in each queue.
-fn activate_for(places: &mut [QueuePlace], kind: File, filter: Filter, files: &[Option<OpenFile>])
-    requires { length files.now < 2 ^ 32 }
-    ensures { places.new ≡ map (option_map (activated_for (kind_out kind) filter files.now)) places.old }
-{
-    for at in 0..files.len() {
-        let number = at as u32;
-        activate_if(places, kind, filter, number, place_at(files, number));
     }
 }
 
@@ -180,11 +175,10 @@ impl Queues {
 
     // Makes the knotes of the open files that are this active, of one filter.
     pub(crate) fn activate(&mut self, kind: File, filter: Filter, files: &[Option<OpenFile>])
-        requires { length files.now < 2 ^ 32 }
         ensures { self.new ≡ in_queues (Arm (kind_out kind) filter files.now) self.old }
     {
         if self.is_used {
-            activate_for(&mut self.places, kind, filter, files);
+            activate_each(&mut self.places, kind, filter, files);
         }
     }
 

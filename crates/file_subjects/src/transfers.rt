@@ -1,4 +1,6 @@
 //! Transfers, and the console rooms (`bsd_files`).
+ghost use Rattle.std.specs.Prelude.{◌≤◌, length};
+ghost use Rattle.std.specs.Bool.{OnTrue};
 
 use crate::pipes::equal_bytes;
 use bsd_files::{FileCall, FileLook, Files, Side};
@@ -98,7 +100,10 @@ pub fn transfer_call(
 }
 
 /// Whether a look may be made so.
-fn may_look(call: &FileCall, buffer: &[u8]) -> bool {
+fn may_look(call: &FileCall, buffer: &[u8]) -> bool
+    ensures len { OnTrue result (call.now.len ≤ length buffer.now) }
+    ensures done { OnTrue result (call.now.done ≤ call.now.len) }
+{
     call.len as usize <= buffer.len() && call.done <= call.len
 }
 

@@ -10,7 +10,7 @@ use Rattle.kqueue_core.specs.declared.knotes.Knote.{Knote}
 use Rattle.kqueue_core.specs.declared.knotes.Watch.{Watch}
 use Rattle.kqueue_core.specs.Knotes.{adds, made, remade, awake, told_knote}
 use Rattle.kqueue_core.specs.Watches.{is_of, knote_at, with_knote, has_knote, fresh, changed_watch, activated_watch, told_watch}
-use Rattle.kqueue_core.specs.Changes.{tally, IsWatches, is_named, has_filter, change_fault, stays, changed_by, activated_in, activated}
+use Rattle.kqueue_core.specs.Changes.{tally, IsWatches, is_named, has_filter, change_fault, stays, changed_by, activated_where, activated_those}
 use Rattle.kqueue_core.specs.Reports.{is_reported, without_first, reports, scanned}
 use Rattle.kqueue_core.proofs.Tallies.{tally-append, tally-map, tally-filter, tally-same, tally_within, tally_none}
 use Rattle.kqueue_core.proofs.Reporting.{split_first, length_parts}
@@ -45,8 +45,8 @@ module _ (file descriptor : ℕ) where
       by true = named_with f (remade flags asked user ready (knote_at f w)) w
       by false = refl
 
-  named_activated : (a : ℕ) (f : Filter) (w : Watch) → is_of file descriptor (activated_in a f w) ≡ is_of file descriptor w
-  named_activated a f w = by f (w.file == a)
+  named_activated : (p : ℕ → Bool) (f : Filter) (w : Watch) → is_of file descriptor (activated_where p f w) ≡ is_of file descriptor w
+  named_activated p f w = by f (p w.file)
     where
       by : (g : Filter) (c : Bool) → is_of file descriptor (if c then activated_watch g w else w) ≡ is_of file descriptor w
       by Read true = refl
@@ -61,8 +61,8 @@ some_told : (k : Option Knote) → is_some (told_knote k) ≡ is_some k
 some_told None = refl
 some_told (Some k) = refl
 
-whole_activated : (a : ℕ) (f : Filter) (w : Watch) → has_knote (activated_in a f w) ≡ has_knote w
-whole_activated a f w = by f (w.file == a)
+whole_activated : (p : ℕ → Bool) (f : Filter) (w : Watch) → has_knote (activated_where p f w) ≡ has_knote w
+whole_activated p f w = by f (p w.file)
   where
     by : (g : Filter) (c : Bool) → has_knote (if c then activated_watch g w else w) ≡ has_knote w
     by Read true = ap (λ b. b || is_some w.write) (some_awake w.read)
@@ -74,19 +74,19 @@ whole_told w = ap₂ (λ a b. a || b) (some_told w.read) (some_told w.write)
 
 -- ---- events of a file
 
-pub kept_activated : (file : ℕ) (f : Filter) (ws : List Watch) → IsWatches ws → IsWatches (activated file f ws)
-kept_activated file f ws h = record {
+pub kept_activated : (p : ℕ → Bool) (f : Filter) (ws : List Watch) → IsWatches ws → IsWatches (activated_those p f ws)
+kept_activated p f ws h = record {
   once = λ a b.
-      let m = tally-map (activated_in file f) (is_of a b) ws in
-      let s = tally-same (λ w. is_of a b (activated_in file f w)) (is_of a b) (named_activated a b file f) ws in
+      let m = tally-map (activated_where p f) (is_of a b) ws in
+      let s = tally-same (λ w. is_of a b (activated_where p f w)) (is_of a b) (named_activated a b p f) ws in
       let o = h.once a b in
       omega arith;
   whole =
-      let m = tally-map (activated_in file f) (λ w. not (has_knote w)) ws in
-      let s = tally-same (λ w. not (has_knote (activated_in file f w))) (λ w. not (has_knote w)) (λ w. ap not (whole_activated file f w)) ws in
+      let m = tally-map (activated_where p f) (λ w. not (has_knote w)) ws in
+      let s = tally-same (λ w. not (has_knote (activated_where p f w))) (λ w. not (has_knote w)) (λ w. ap not (whole_activated p f w)) ws in
       let o = h.whole in
       omega arith;
-  few = let l = long_map (activated_in file f) ws in let o = h.few in omega arith;
+  few = let l = long_map (activated_where p f) ws in let o = h.few in omega arith;
 }
 
 pub kept_without : (q : Watch → Bool) (ws : List Watch) → IsWatches ws → IsWatches (filter q ws)

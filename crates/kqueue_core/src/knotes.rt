@@ -211,7 +211,7 @@ impl Change {
 
 impl Watch {
     ghost use Rattle.kqueue_core.specs.Watches.{ident_of, is_of, knote_at, with_knote, has_knote, is_watched, told_watch, user_of};
-    ghost use Rattle.kqueue_core.specs.Changes.{activated_in};
+    ghost use Rattle.kqueue_core.specs.Watches.{activated_watch};
 
     // Its name.
     pub(crate) fn ident(self) -> Ident
@@ -263,15 +263,11 @@ impl Watch {
         self.read.is_some() || self.write.is_some()
     }
 
-    // The same, its knote of a filter active where it is in this open file.
-    pub(crate) fn activated_in(self, file: u32, filter: Filter) -> Watch
-        ensures { result ≡ activated_in file filter self }
+    // The same, its knote of a filter active.
+    pub(crate) fn activated(self, filter: Filter) -> Watch
+        ensures { result ≡ activated_watch filter self }
     {
-        if self.file == file {
-            self.with_knote(filter, awake(self.knote(filter)))
-        } else {
-            self
-        }
+        self.with_knote(filter, awake(self.knote(filter)))
     }
 
     // Whether it has a knote that is enabled and active.

@@ -10,4 +10,4 @@ mod scans;
 
 pub use crate::knotes::{ChangeFault, Event, Filter, Flux, Ident, Knote, KnoteFlags, Watch};
 pub use crate::queue::{Kqueue, NoMemory};
-pub use crate::ready::Readiness;
+pub use crate::ready::{Readiness, Those};

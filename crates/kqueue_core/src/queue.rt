@@ -1,11 +1,11 @@
 //! A kqueue: its interests, and whose flux stands.
 ghost use Rattle.std.specs.Prelude.{◌≡◌, ◌≤◌, ◌++◌, [], length, drop, map, IfOk, OnOk, OnErr, MatchResult, Some, None, is_some};
-ghost use Rattle.kqueue_core.specs.Changes.{IsWatches, change_fault, changed_by, activated, without_file};
+ghost use Rattle.kqueue_core.specs.Changes.{IsWatches, change_fault, changed_by, activated, activated_those, without_file};
 ghost use Rattle.kqueue_core.specs.Reports.{event_of, reports, scanned, pick_of};
 
 use crate::changes::{self, MOST};
 use crate::knotes::{Change, ChangeFault, Event, Filter, Flux, Ident, KnoteFlags, Watch};
-use crate::ready::Readiness;
+use crate::ready::{Only, Readiness, Those};
 use crate::scans;
 use std::alloc::Global;
 use std::marker::Model;
@@ -97,7 +97,15 @@ impl Kqueue {
         ensures queue { self.new ≡ record self.old { watches = activated file filter self.old.watches } }
         ensures watches { IsWatches self.new.watches }
     {
-        changes::activate(&mut self.watches, file, filter);
+        self.activate_those(&Only { file }, filter);
+    }
+
+    /// Makes the knotes of those open files and a filter active.
+    pub fn activate_those<T: Those>(&mut self, those: &T, filter: Filter)
+        ensures queue { self.new ≡ record self.old { watches = activated_those (T.have those.now) filter self.old.watches } }
+        ensures watches { IsWatches self.new.watches }
+    {
+        changes::activate(&mut self.watches, those, filter);
     }
 
     /// Takes out every knote of an open file.

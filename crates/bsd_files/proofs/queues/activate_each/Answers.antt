@@ -2,10 +2,11 @@ use Rattle.std.proofs.Common.{◌<◌, length, arith}
 use Rattle.std.specs.Option.{option_map}
 use Rattle.std.proofs.lemmas.List.{get_or_default}
 use Rattle.std.proofs.lemmas.List.Edits.{map_over_more}
-use Rattle.bsd_files.specs.Ops.{activated_in_queue}
+use Rattle.open_files.specs.Kinds.{kind_out}
+use Rattle.bsd_files.specs.Ops.{activated_for}
 use Rattle.bsd_files.proofs.queues.activate_each.Goals as goal
 
 pub loop-place-preserved : goal.loop-place-preserved
 loop-place-preserved c =
     let within : c.loop-place.place-index < length c.loop-place.places = omega (arith, c.loop-place.auto.places, c.loop-place-test.true) in
-    rw c.activate_in.ensures (map_over_more (option_map (activated_in_queue c.args.file c.args.filter)) c.args.places.now c.loop-place.places c.loop-place.place-index _ c.loop-place-test.true c.loop-place.invariant (get_or_default _ _ _ _ within))
+    rw c.activate_in.ensures (map_over_more (option_map (activated_for (kind_out c.args.kind) c.args.filter c.args.files.now)) c.args.places.now c.loop-place.places c.loop-place.place-index _ c.loop-place-test.true c.loop-place.invariant (get_or_default _ _ _ _ within))
