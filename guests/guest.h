@@ -283,6 +283,7 @@ static inline const char *error_name(i64 error)
     case 28: return "ENOSPC";
     case 29: return "ESPIPE";
     case 32: return "EPIPE";
+    case 35: return "EDEADLK";
     case 38: return "ENOSYS";
     case 40: return "ELOOP";
     case 110: return "ETIMEDOUT";
