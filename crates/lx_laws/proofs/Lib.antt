@@ -18,5 +18,3 @@ pub mod Tids
 pub mod Resumes
 pub mod Enters
 pub mod Gifts
-pub mod Memory
-pub mod Returns

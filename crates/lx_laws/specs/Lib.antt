@@ -6,4 +6,3 @@ pub mod Interests
 pub mod Tids
 pub mod Waiters
 pub mod Locks
-pub mod Frames
