@@ -1,4 +1,4 @@
-// As many threads as there may be beside the first, all at once: each starts the next, waits until all are there, and adds
+// Thirty-one threads beside the first, all at once: each starts the next, waits until all are there, and adds
 // its number.
 #include "threads.h"
 
