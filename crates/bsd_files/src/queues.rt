@@ -88,12 +88,7 @@ impl Model for Queues {
 }
 
 // Makes the knotes of the open files that are this and of a filter active, in each queue.
-fn activate_each(
-    places: &mut [QueuePlace],
-    kind: File,
-    filter: Filter,
-    files: &[Option<OpenFile>],
-)
+fn activate_each(places: &mut [QueuePlace], kind: File, filter: Filter, files: &[Option<OpenFile>])
     ensures { places.new ≡ map (option_map (activated_for (kind_out kind) filter files.now)) places.old }
 {
     for place in places.iter_mut() {

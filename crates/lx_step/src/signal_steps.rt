@@ -7,8 +7,8 @@ ghost use Rattle.lx_machine.specs.Threads.{with_thread};
 ghost use Rattle.lx_step.specs.Outcomes.{ThreadGoes};
 ghost use Rattle.lx_call_steps.specs.Outcomes.{IsDecided};
 
-use lx_call_steps::marks::unmark;
 use linux_abi::LinuxSig;
+use lx_call_steps::marks::unmark;
 use lx_calls::shape::{restarts, stage_of};
 use lx_machine::calls::Stage;
 use lx_machine::label::PendingList;

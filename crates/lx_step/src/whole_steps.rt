@@ -73,7 +73,12 @@ fn effect_as(
                 call,
             )?;
         }
-        Some(Call::GetRobustList) => get_robust_list(alloc, state.threads.as_slice(), robust_head, call)?,
+        Some(Call::GetRobustList) => get_robust_list(
+            alloc,
+            state.threads.as_slice(),
+            robust_head,
+            call,
+        )?,
         Some(Call::Kill) => {
             let sending = kill_sending(queued(state.threads.as_slice(), &state.pending), call);
             return send(state, call, sending);

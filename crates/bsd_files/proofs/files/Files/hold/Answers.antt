@@ -14,7 +14,7 @@ pub held_once_more-requires : goal.held_once_more-requires
 held_once_more-requires c =
     let h = hold_within c.self.inside.plain.value.files c.args.file in
     let e : c.in-Some.f.holds ≡ holds_of (at_place c.self.inside.plain.value.files c.args.file) =
-        ap holds_of (c.in-Some.ensures ∙ ap (λ (p : Plain). at_place p.files c.args.file) c.deref.ensures) in
+    ap holds_of (c.in-Some.ensures ∙ ap (λ (p : Plain). at_place p.files c.args.file) c.deref.ensures) in
     let few = subst (λ (S : FilesState). holds_in S.plain < 128) (sym c.self.view_is) c.requires.few in
     omega (arith, h, e, few)
 
