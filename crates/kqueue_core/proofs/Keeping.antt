@@ -10,7 +10,7 @@ use Rattle.kqueue_core.specs.declared.knotes.Knote.{Knote}
 use Rattle.kqueue_core.specs.declared.knotes.Watch.{Watch}
 use Rattle.kqueue_core.specs.Knotes.{adds, made, remade, awake, told_knote}
 use Rattle.kqueue_core.specs.Watches.{is_of, knote_at, with_knote, has_knote, fresh, changed_watch, activated_watch, told_watch}
-use Rattle.kqueue_core.specs.Changes.{tally, IsWatches, is_named, has_filter, change_fault, stays, changed_by, activated_where, activated_those}
+use Rattle.kqueue_core.specs.Changes.{tally, IsWatches, is_named, has_filter, change_fault, stays, changed_by, activated_where, activated_by}
 use Rattle.kqueue_core.specs.Reports.{is_reported, without_first, reports, scanned}
 use Rattle.kqueue_core.proofs.Tallies.{tally-append, tally-map, tally-filter, tally-same, tally_within, tally_none}
 use Rattle.kqueue_core.proofs.Reporting.{split_first, length_parts}
@@ -23,7 +23,7 @@ long_filter : {X : Type 0} (p : X → Bool) (xs : List X) → length (filter p x
 long_filter p [] = omega arith
 long_filter p (x ∷ xs) = let a = long_filter p xs in grind (arith, common_steps)
 
-both : (a b : Bool) → (a && b) ≡ true → (a ≡ true) × (b ≡ true)
+pub both : (a b : Bool) → (a && b) ≡ true → (a ≡ true) × (b ≡ true)
 both true b e = (refl, e)
 both false b e = let z : false ≡ true = e in absurd (cc)
 
@@ -74,7 +74,7 @@ whole_told w = ap₂ (λ a b. a || b) (some_told w.read) (some_told w.write)
 
 -- ---- events of a file
 
-pub kept_activated : (p : ℕ → Bool) (f : Filter) (ws : List Watch) → IsWatches ws → IsWatches (activated_those p f ws)
+pub kept_activated : (p : ℕ → Bool) (f : Filter) (ws : List Watch) → IsWatches ws → IsWatches (activated_by p f ws)
 kept_activated p f ws h = record {
   once = λ a b.
       let m = tally-map (activated_where p f) (is_of a b) ws in
@@ -102,7 +102,7 @@ module _ (R : ℕ → Filter → ℕ) (most : ℕ) (ws : List Watch) where
   abbrev os : List Watch
   os = without_first (is_reported R) most ws
 
-  same_scanned : (t : Watch → Bool) → ((w : Watch) → t (told_watch w) ≡ t w) → tally t (scanned R most ws) ≡ tally t ws
+  pub same_scanned : (t : Watch → Bool) → ((w : Watch) → t (told_watch w) ≡ t w) → tally t (scanned R most ws) ≡ tally t ws
   same_scanned t h =
       let a = tally-append t os (map told_watch (reports R most ws)) in
       let b = tally-map told_watch t (reports R most ws) in
@@ -132,7 +132,7 @@ fresh_whole : (file descriptor : ℕ) (f : Filter) (k : Knote) → has_knote (fr
 fresh_whole file descriptor Read k = refl
 fresh_whole file descriptor Write k = refl
 
-eq_is : (n m : ℕ) → (n == m) ≡ true → n ≡ m
+pub eq_is : (n m : ℕ) → (n == m) ≡ true → n ≡ m
 eq_is n m h = grind arith
 
 module _ (file descriptor : ℕ) (f : Filter) (flags asked user : ℕ) (ready : Bool) (ws : List Watch) (h : IsWatches ws) where

@@ -4,3 +4,4 @@ pub mod Reporting
 pub mod Sorting
 pub mod Steps
 pub mod Tallies
+pub mod Watching

@@ -58,12 +58,12 @@ abbrev pub activated_where : (ℕ → Bool) → Filter → Watch → Watch
 activated_where p filter w = if p w.file then activated_watch filter w else w
 
 -- the interests after an event of the files that pass a test
-abbrev pub activated_those : (ℕ → Bool) → Filter → List Watch → List Watch
-activated_those p filter ws = map (activated_where p filter) ws
+abbrev pub activated_by : (ℕ → Bool) → Filter → List Watch → List Watch
+activated_by p filter ws = map (activated_where p filter) ws
 
 -- the interests after `activate`
 abbrev pub activated : ℕ → Filter → List Watch → List Watch
-activated file filter ws = activated_those (λ i. i == file) filter ws
+activated file filter ws = activated_by (λ i. i == file) filter ws
 
 abbrev pub is_apart_from : ℕ → Watch → Bool
 is_apart_from file w = not (w.file == file)

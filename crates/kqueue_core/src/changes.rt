@@ -4,10 +4,9 @@ ghost use Rattle.std.proofs.Math.Bool.{not};
 ghost use Rattle.std.specs.List.{list_any};
 ghost use Rattle.kqueue_core.specs.Knotes.{adds};
 ghost use Rattle.kqueue_core.specs.Watches.{is_of, changed_watch};
-ghost use Rattle.kqueue_core.specs.Changes.{is_named, has_filter, change_fault, stays, changed_by, activated_those, without_file};
+ghost use Rattle.kqueue_core.specs.Changes.{is_named, has_filter, change_fault, stays, changed_by, activated, without_file};
 
 use crate::knotes::{Change, ChangeFault, Filter, Ident, Watch};
-use crate::ready::Those;
 
 /// The most interests that may stand.
 pub(crate) const MOST: usize = 512;
@@ -81,12 +80,12 @@ pub(crate) fn apply(watches: &mut Vec<Watch>, change: Change)
     keep_whole(watches, change.ident);
 }
 
-// Makes the knotes of those open files and a filter active.
-fn activate_each<T: Those>(watches: &mut [Watch], those: &T, filter: Filter)
-    ensures { watches.new ≡ activated_those (T.have those.now) filter watches.old }
+// Makes the knotes of an open file and a filter active.
+fn activate_each(watches: &mut [Watch], file: u32, filter: Filter)
+    ensures { watches.new ≡ activated file filter watches.old }
 {
     for at in 0..watches.len() {
-        if those.have(watches[at].file) {
+        if watches[at].file == file {
             let active = watches[at].activated(filter);
             watches[at] = active;
         }
@@ -94,11 +93,11 @@ fn activate_each<T: Those>(watches: &mut [Watch], those: &T, filter: Filter)
 }
 
 // The same, of all interests.
-pub(crate) fn activate<T: Those>(watches: &mut Vec<Watch>, those: &T, filter: Filter)
-    ensures items { watches.new.items ≡ activated_those (T.have those.now) filter watches.old.items }
+pub(crate) fn activate(watches: &mut Vec<Watch>, file: u32, filter: Filter)
+    ensures items { watches.new.items ≡ activated file filter watches.old.items }
     ensures capacity { vec_capacity watches.new ≡ vec_capacity watches.old }
 {
-    activate_each(watches, those, filter);
+    activate_each(watches, file, filter);
 }
 
 // Lets the interests in an open file go.

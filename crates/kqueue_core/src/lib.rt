@@ -7,7 +7,8 @@ mod knotes;
 mod queue;
 mod ready;
 mod scans;
+mod watched;
 
 pub use crate::knotes::{ChangeFault, Event, Filter, Flux, Ident, Knote, KnoteFlags, Watch};
 pub use crate::queue::{Kqueue, NoMemory};
-pub use crate::ready::{Readiness, Those};
+pub use crate::ready::Readiness;

@@ -1,12 +1,14 @@
 //! A kqueue: its interests, and whose flux stands.
-ghost use Rattle.std.specs.Prelude.{◌≡◌, ◌≤◌, ◌++◌, [], length, drop, map, IfOk, OnOk, OnErr, MatchResult, Some, None, is_some};
-ghost use Rattle.kqueue_core.specs.Changes.{IsWatches, change_fault, changed_by, activated, activated_those, without_file};
+ghost use Rattle.std.specs.Prelude.{◌≡◌, ◌≤◌, ◌++◌, [], length, drop, map, IfOk, OnOk, OnErr, MatchResult, Some, None, is_some, nat_le, true};
+ghost use Rattle.std.specs.List.{list_all};
+ghost use Rattle.kqueue_core.specs.Changes.{IsWatches, change_fault, changed_by, activated, without_file};
 ghost use Rattle.kqueue_core.specs.Reports.{event_of, reports, scanned, pick_of};
 
 use crate::changes::{self, MOST};
 use crate::knotes::{Change, ChangeFault, Event, Filter, Flux, Ident, KnoteFlags, Watch};
-use crate::ready::{Only, Readiness, Those};
+use crate::ready::Readiness;
 use crate::scans;
+use crate::watched::Watched;
 use std::alloc::Global;
 use std::marker::Model;
 
@@ -21,6 +23,8 @@ pub struct Kqueue {
     watches: Vec<Watch>,
     // What a scan has reported, until it puts it behind the others.
     reported: Vec<Watch>,
+    // The open files in which there may be interests.
+    watched: Watched,
     flux: Option<Flux>,
 }
 
@@ -52,6 +56,7 @@ impl Kqueue {
         Ok(Kqueue {
             watches,
             reported,
+            watched: Watched::none(),
             flux: None,
         })
     }
@@ -88,24 +93,20 @@ impl Kqueue {
         if let Some(fault) = changes::fault_of(&self.watches, change) {
             return Err(fault);
         }
+        self.watched.note(ident.file);
         changes::apply(&mut self.watches, change);
         Ok(())
     }
 
-    /// Makes the knotes of an open file and a filter active.
+    /// Makes the knotes of an open file and a filter active. Where there is no interest in the file it costs no walk over the
+    /// interests, except where one was taken out before.
     pub fn activate(&mut self, file: u32, filter: Filter)
         ensures queue { self.new ≡ record self.old { watches = activated file filter self.old.watches } }
         ensures watches { IsWatches self.new.watches }
     {
-        self.activate_those(&Only { file }, filter);
-    }
-
-    /// Makes the knotes of those open files and a filter active.
-    pub fn activate_those<T: Those>(&mut self, those: &T, filter: Filter)
-        ensures queue { self.new ≡ record self.old { watches = activated_those (T.have those.now) filter self.old.watches } }
-        ensures watches { IsWatches self.new.watches }
-    {
-        changes::activate(&mut self.watches, those, filter);
+        if self.watched.may_have(file) {
+            changes::activate(&mut self.watches, file, filter);
+        }
     }
 
     /// Takes out every knote of an open file.
@@ -113,7 +114,10 @@ impl Kqueue {
         ensures queue { self.new ≡ record self.old { watches = without_file file self.old.watches } }
         ensures watches { IsWatches self.new.watches }
     {
-        changes::drop_file(&mut self.watches, file);
+        if self.watched.may_have(file) {
+            changes::drop_file(&mut self.watches, file);
+            self.watched.forget(file);
+        }
     }
 
     /// Reports the first `most` interests that have some bits and a knote that is enabled and active, or all where there are
@@ -172,6 +176,7 @@ impl Kqueue {
         ensures { self.new ≡ record { watches = []; flux = None } }
     {
         self.watches.clear();
+        self.watched = Watched::none();
         self.flux = None;
     }
 
@@ -181,6 +186,13 @@ impl Kqueue {
         ensures most { result ≤ 512 }
     {
         self.watches.len()
+    }
+
+    /// A number that no open file in which there is an interest passes.
+    pub fn last_watched(&self) -> u32
+        ensures { list_all (λ w. nat_le w.file result) self.now.watches ≡ true }
+    {
+        self.watched.last
     }
 
     /// Whether a flux stands.
