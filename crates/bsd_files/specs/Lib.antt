@@ -2,6 +2,7 @@ pub mod Calls
 pub mod FileLending
 pub mod Lending
 pub mod Look
+pub mod Moves
 pub mod Ops
 pub mod Queues
 pub mod State

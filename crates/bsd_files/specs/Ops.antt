@@ -1,9 +1,9 @@
 -- What an event of an open file does to the queues, read off the files alone. Source: kqueue(2) of FreeBSD, epoll(7) of Linux.
-use Rattle.std.specs.Prelude.{ℕ, ◌==◌, Bool, ◌&&◌, if◌then◌else◌, List, [], ◌∷◌, map, Option, Some, None}
+use Rattle.std.specs.Prelude.{ℕ, ◌==◌, Bool, true, ◌&&◌, nat_le, if◌then◌else◌, List, [], ◌∷◌, map, Option, Some, None}
 use Rattle.std.proofs.Math.Bool.{not}
-use Rattle.std.specs.List.{list_any}
+use Rattle.std.specs.List.{list_all, list_any}
 use Rattle.std.specs.Option.{option_map}
-use Rattle.kqueue_core.specs.Changes.{activated_those, without_file}
+use Rattle.kqueue_core.specs.Changes.{activated_by, without_file}
 use Rattle.kqueue_core.specs.Queues.{Queue}
 use Rattle.kqueue_core.specs.declared.knotes.Filter.{Filter}
 use Rattle.kqueue_core.specs.declared.knotes.Filter.TheVariants.{Read, Write}
@@ -21,9 +21,18 @@ use Rattle.lx_machine.specs.declared.files.FileKind.TheVariants as kind
 abbrev pub is_this : FileKind → List (Option OpenFile) → ℕ → Bool
 is_this k files file = is_open_of k (at_place files file)
 
--- a queue after the knotes of the open files that are this became active
+-- a queue after the knotes of the open files that pass a test became active
+abbrev pub active_after : (ℕ → Bool) → Filter → Queue → Queue
+active_after p f q = record q { watches = activated_by p f q.watches }
+
+-- of those that are this
 abbrev pub activated_for : FileKind → Filter → List (Option OpenFile) → Queue → Queue
-activated_for k f files q = record q { watches = activated_those (is_this k files) f q.watches }
+activated_for k f files q = active_after (is_this k files) f q
+
+-- a queue has no interest in an open file past this number
+abbrev pub is_below : ℕ → Option Queue → Bool
+is_below last None = true
+is_below last (Some q) = list_all (λ w. nat_le w.file last) q.watches
 
 -- a queue after `drop_file`
 abbrev pub left_by : ℕ → Queue → Queue

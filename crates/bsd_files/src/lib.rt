@@ -7,6 +7,7 @@ mod ends;
 mod files;
 mod looks;
 mod making;
+pub mod moves;
 mod queues;
 mod reports;
 

@@ -1,16 +1,15 @@
 //! The queues (kqueue(2)), and what an event of an open file does to all of them.
-ghost use Rattle.std.specs.Prelude.{◌≡◌, ◌<◌, ◌^◌, [], length, map, replicate, position, is_none, is_some, IsSome, Some, None, IfOk, IfSome, MatchOption};
+ghost use Rattle.std.specs.Prelude.{◌≡◌, ◌<◌, ◌^◌, ◌==◌, [], true, length, map, replicate, position, is_none, is_some, IsSome, Some, None, IfOk, IfSome, MatchOption};
 ghost use Rattle.std.specs.Option.{option_map};
-ghost use Rattle.std.specs.List.{list_any};
+ghost use Rattle.std.specs.List.{list_all, list_any};
 ghost use Rattle.std.specs.Borrow.{sem};
 ghost use Rattle.lx_machine.specs.Lists.{at_place, first_free, with_place, without_place};
 ghost use Rattle.open_files.specs.Kinds.{kind_out};
 ghost use Rattle.bsd_files.specs.Lending.{LendsQueue};
-ghost use Rattle.bsd_files.specs.Ops.{Arm, Leave, activated_for, in_queues, is_this, left_by};
+ghost use Rattle.bsd_files.specs.Ops.{Arm, Leave, activated_for, active_after, in_queues, is_below, left_by};
 ghost use Rattle.bsd_files.specs.State.{has_flux, has_flux_on};
 
-use kqueue_core::{Filter, Kqueue, Those};
-use open_files::numbers::place_at;
+use kqueue_core::{Filter, Kqueue};
 use open_files::open_file::is_open_of;
 use open_files::reused::{Place, close_place, first_free_place};
 use open_files::{File, NoMemory, OpenFile};
@@ -23,29 +22,22 @@ pub(crate) const QUEUES: usize = 32;
 /// The place of a queue.
 type QueuePlace = Place<Kqueue>;
 
-// The open files that are this.
-#[derive(Clone, Copy)]
-struct OpenOf<'a> {
-    kind: File,
-    files: &'a [Option<OpenFile>],
-}
-
-impl Those for OpenOf<'_> {
-    ghost have = { λ those file. is_this (kind_out those.kind) those.files.now file };
-
-    fn have(&self, file: u32) -> bool {
-        is_open_of(self.kind, place_at(self.files, file))
+// Makes the knotes of an open file and a filter active, in the queue of a place.
+fn activate_in(place: &mut QueuePlace, file: u32, filter: Filter)
+    ensures { place.new ≡ option_map (active_after (λ i. i == file) filter) place.old }
+{
+    if !place.is_free() {
+        place.get_mut().activate(file, filter);
     }
 }
 
-// Makes the knotes of the open files that are this and of a filter active, in the queue of a place.
-fn activate_in(place: &mut QueuePlace, kind: File, filter: Filter, files: &[Option<OpenFile>])
-    ensures { place.new ≡ option_map (activated_for (kind_out kind) filter files.now) place.old }
+// A number that no open file passes in which the queue of a place has an interest.
+fn last_watched_in(place: &QueuePlace) -> u32
+    ensures { is_below result place.now ≡ true }
 {
-    if !place.is_free() {
-        place
-            .get_mut()
-            .activate_those(&OpenOf { kind, files }, filter);
+    match place.get() {
+        Some(queue) => queue.last_watched(),
+        None => 0,
     }
 }
 
@@ -87,12 +79,37 @@ impl Model for Queues {
     ghost invariant = { λ q. (q.is_used ≡ false → q.places.items ≡ replicate 32 None) × (length q.places.items < 2 ^ 32) };
 }
 
-// Makes the knotes of the open files that are this and of a filter active, in each queue.
+// Makes the knotes of an open file and a filter active, in each queue.
+fn activate_file(places: &mut [QueuePlace], file: u32, filter: Filter)
+    ensures { places.new ≡ map (option_map (active_after (λ i. i == file) filter)) places.old }
+{
+    for place in places.iter_mut() {
+        activate_in(place, file, filter);
+    }
+}
+
+// A number that no open file passes in which a queue has an interest.
+fn last_watched(places: &[QueuePlace]) -> u32
+    ensures { list_all (is_below result) places.now ≡ true }
+{
+    let mut last = 0;
+    for place in places {
+        last = last.max(last_watched_in(place));
+    }
+    last
+}
+
+// Makes the knotes of the open files that are this and of a filter active, in each queue. It walks over the open files in which there
+// may be interests, and over the interests of a queue only where it may have one in such a file.
 fn activate_each(places: &mut [QueuePlace], kind: File, filter: Filter, files: &[Option<OpenFile>])
     ensures { places.new ≡ map (option_map (activated_for (kind_out kind) filter files.now)) places.old }
 {
-    for place in places.iter_mut() {
-        activate_in(place, kind, filter, files);
+    let last = last_watched(places);
+    let count = files.len().min(last as usize + 1);
+    for at in 0..count {
+        if is_open_of(kind, files[at]) {
+            activate_file(places, at as u32, filter);
+        }
     }
 }
 
