@@ -19,10 +19,10 @@ use Rattle.bsd_files.specs.Ops.{active_after, is_below, is_this}
 
 -- ---- places
 
-pub place_is : {X : Type 0} (xs : List (Option X)) (i : ℕ) → slice_index_or xs i None ≡ at_place xs i
-place_is [] i = refl
-place_is (x ∷ xs) zero = refl
-place_is (x ∷ xs) (suc i) = place_is xs i
+pub place_is : {X : Type 0} (xs : List (Option X)) (i : ℕ) (x : Option X) → i < length xs → slice_index_or xs i x ≡ x → at_place xs i ≡ x
+place_is [] i x h e = absurd (omega (arith, h))
+place_is (o ∷ xs) zero x h e = e
+place_is (o ∷ xs) (suc i) x h e = place_is xs i x (omega (arith, h)) e
 
 past : {X : Type 0} (xs : List (Option X)) (i : ℕ) → length xs ≤ i → at_place xs i ≡ None
 past [] i h = refl
@@ -125,8 +125,11 @@ module _ (t : ℕ → Bool) (at i : ℕ) where
       by false e = ap (λ c. c && t i) (grind arith)
 
 module _ (k : FileKind) (f : Filter) (files : List (Option OpenFile)) (qs : List (Option Queue)) where
+  before_none : (i : ℕ) → nat_lt i 0 ≡ false
+  before_none i = grind arith
+
   pub walk_begins : qs ≡ map (option_map (active_after (so_far k files 0) f)) qs
-  walk_begins = sym (nobody f (so_far k files 0) (λ i. ap (λ b. b && is_this k files i) (grind arith)) qs)
+  walk_begins = sym (nobody f (so_far k files 0) (λ i. ap (λ b. b && is_this k files i) (before_none i)) qs)
 
   pub walk_takes : (at : ℕ) (now : List (Option Queue)) → now ≡ map (option_map (active_after (so_far k files at) f)) qs → is_this k files at ≡ true
       → map (option_map (active_after (λ i. i == at) f)) now ≡ map (option_map (active_after (so_far k files (at + 1)) f)) qs
@@ -183,10 +186,16 @@ all_wider a b h (o ∷ qs) e =
     ap (λ c. c && list_all (is_below b) qs) (wider a b h o parts.0) ∙ all_wider a b h qs parts.1
 
 -- one place more
-pub next_below : (qs : List (Option Queue)) (i a b : ℕ) → i < length qs → list_all (is_below a) (take i qs) ≡ true → is_below b (slice_index_or qs i None) ≡ true
-    → list_all (is_below (max a b)) (take (i + 1) qs) ≡ true
-next_below [] i a b h e g = refl
-next_below (o ∷ qs) zero a b h e g = ap (λ c. c && true) (wider b (max a b) (omega arith) o g)
-next_below (o ∷ qs) (suc i) a b h e g =
+next_suc : (qs : List (Option Queue)) (i a b : ℕ) (x : Option Queue) → i < length qs → list_all (is_below a) (take i qs) ≡ true → slice_index_or qs i x ≡ x → is_below b x ≡ true
+    → list_all (is_below (max a b)) (take (suc i) qs) ≡ true
+next_suc [] i a b x h e is g = absurd (omega (arith, h))
+next_suc (o ∷ qs) zero a b x h e is g = ap (λ c. c && true) (wider b (max a b) (omega arith) o (ap (is_below b) is ∙ g))
+next_suc (o ∷ qs) (suc i) a b x h e is g =
     let parts = both (is_below a o) (list_all (is_below a) (take i qs)) e in
-    ap (λ c. c && list_all (is_below (max a b)) (take (i + 1) qs)) (wider a (max a b) (omega arith) o parts.0) ∙ next_below qs i a b (omega (arith, h)) parts.1 g
+    ap (λ c. c && list_all (is_below (max a b)) (take (suc i) qs)) (wider a (max a b) (omega arith) o parts.0) ∙ next_suc qs i a b x (omega (arith, h)) parts.1 is g
+
+pub next_below : (qs : List (Option Queue)) (i a b m : ℕ) (x : Option Queue) → m ≡ max a b → i < length qs → list_all (is_below a) (take i qs) ≡ true → slice_index_or qs i x ≡ x → is_below b x ≡ true
+    → list_all (is_below m) (take (i + 1) qs) ≡ true
+next_below qs i a b m x most h e is g =
+    let next : i + 1 ≡ suc i = omega arith in
+    ap₂ (λ n j. list_all (is_below n) (take j qs)) most next ∙ next_suc qs i a b x h e is g
