@@ -104,10 +104,12 @@ module _ (t : ℕ → Bool) (at i : ℕ) where
       last true m b e g k = let z : true ≡ false = e in absurd (cc)
       last false false b e g k = let z : false ≡ true = g in absurd (cc)
       last false true false e g k = let z : false ≡ true = k in absurd (cc)
+
       other : (n m : Bool) (b : Bool) → n ≡ m → ((n && b) || false) ≡ (m && b)
       other true m true e = ap (λ c. c && true) e
       other true m false e = ap (λ c. c && false) e
       other false m b e = ap (λ c. c && b) e
+
       by : (e : Bool) → (i == at) ≡ e → ((nat_lt i at && t i) || (i == at)) ≡ (nat_lt i (at + 1) && t i)
       by true e = ap (λ c. (nat_lt i at && t i) || c) e ∙ last (nat_lt i at) (nat_lt i (at + 1)) (t i) (grind arith) (grind arith) (ap t (eq_is i at e) ∙ h)
       by false e = ap (λ c. (nat_lt i at && t i) || c) e ∙ other (nat_lt i at) (nat_lt i (at + 1)) (t i) (grind arith)
@@ -120,6 +122,7 @@ module _ (t : ℕ → Bool) (at i : ℕ) where
       never false false b e = refl
       never true false b e = e
       never false true b e = sym e
+
       by : (e : Bool) → (i == at) ≡ e → (nat_lt i at && t i) ≡ (nat_lt i (at + 1) && t i)
       by true e = never (nat_lt i at) (nat_lt i (at + 1)) (t i) (ap t (eq_is i at e) ∙ h)
       by false e = ap (λ c. c && t i) (grind arith)

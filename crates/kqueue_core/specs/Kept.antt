@@ -4,7 +4,8 @@ use Rattle.kqueue_core.specs.declared.queue.Kqueue.TheInside.{Inside}
 use Rattle.kqueue_core.specs.Changes.{IsWatches}
 use Rattle.kqueue_core.specs.Watched.{Covers}
 
--- the watches, of which each is in a file that is told to have some, and room in either vector for all that can stand, so that nothing but `make` takes memory
+-- the watches, each in an open file that may have some, and room in either vector for all that can stand, so that nothing but `make`
+-- takes memory
 pub record HasRoom (q : Inside) : Type 0 where
   pub watches : IsWatches q.watches.items
   pub covers : Covers q.watched q.watches.items
