@@ -1,7 +1,7 @@
 -- The open files in which there may be interests: changes, events of a file and scans keep that they have each interest, and what
 -- is done to the interests in any other changes none.
-use Rattle.std.proofs.Common.{◌≡◌, ℕ, zero, suc, ◌≤◌, Bool, true, false, not, ◌||◌, ◌&&◌, List, [], ◌∷◌, ◌++◌, map, Option, Some, None, refl, sym, ap, ap₂, ◌∙◌, arith}
-use Rattle.std.specs.Prelude.{◌==◌, filter, max, nat_le, slice_index_or, slice_set, if◌then◌else◌}
+use Rattle.std.proofs.Common.{◌≡◌, ℕ, zero, suc, Bool, true, false, not, ◌||◌, ◌&&◌, List, [], ◌∷◌, ◌++◌, map, Option, refl, sym, ap, ap₂, ◌∙◌, arith}
+use Rattle.std.specs.Prelude.{◌==◌, filter, nat_le, slice_index_or, slice_set, if◌then◌else◌}
 use Rattle.std.specs.List.{list_all, list_any}
 use Rattle.kqueue_core.specs.declared.knotes.Filter.{Filter}
 use Rattle.kqueue_core.specs.declared.knotes.Filter.TheVariants.{Read, Write}
