@@ -7,8 +7,8 @@ use Rattle.guest_mem.proofs.shard.Shard.map_page.Goals as goal
 -- a kept page gets the rights and is made zeros
 pub returns-then-set_rights-clause-ok : goal.returns-then-set_rights-clause-ok
 returns-then-set_rights-clause-ok c =
-    let pages = c.self.inside.pages.pages in
-    let spare = c.self.inside.pages.spare in
+    let pages = c.self.inside.pages.value.pages in
+    let spare = c.self.inside.pages.value.spare in
     let page = c.args.page in
     let rights = c.args.rights in
     let has : has_any rights ≡ true = sym c.has_any_right.ensures ∙ c.if-not-has_any_right.false in
