@@ -56,19 +56,24 @@ def crates_below(names):
 
 
 class Program:
-    """A program with this text that uses these crates. It is proved, as every crate is, and built by LLVM."""
+    """A program with this text that uses these crates. It is proved, as every crate is, and built by LLVM.
+
+    `rt ci` builds it, since that takes the libraries which it has proved before on this machine, as in a run of the gate, and
+    keeps those that it proves now. It also runs the program, on no input, whose output isn't compared with anything here."""
 
     def __init__(self, name, text, crates):
         self.folder = tempfile.TemporaryDirectory(prefix=name)
         root = pathlib.Path(self.folder.name)
         lines = crates_below(crates)
         for crate in lines:
-            shutil.copytree(ROOT / "crates" / crate, root / "crates" / crate, ignore=shutil.ignore_patterns("out"))
+            shutil.copytree(ROOT / "crates" / crate, root / "crates" / crate, ignore=shutil.ignore_patterns("out", "must-fail"))
+        shutil.copy(ROOT / "HANDLES", root)
         source = root / "crates" / name / "src"
         source.mkdir(parents=True)
         (source / "main.rt").write_text(text)
         (root / "crates.txt").write_text("\n".join(lines.values()) + f"\n{name}: {' '.join(crates)}\n")
-        built = subprocess.run(["rt", "run"], cwd=source.parent, stdin=subprocess.DEVNULL, capture_output=True, text=True)
+        subprocess.run(["rt", "fmt"], cwd=source.parent, stdin=subprocess.DEVNULL, capture_output=True)
+        built = subprocess.run(["rt", "ci"], cwd=root, stdin=subprocess.DEVNULL, capture_output=True, text=True)
         self.path = source.parent / "out" / name
         if not self.path.exists():
             print(built.stdout + built.stderr)

@@ -9,18 +9,18 @@ state_in s = record {
   rules = s.rules;
   slots = s.slots.items;
   next_tid = s.next_tid;
-  areas = s.areas;
-  break_at = s.break_at;
-  break_start = s.break_start;
-  actions = s.actions.items;
+  areas = s.rest.value.areas;
+  break_at = s.rest.value.break_at;
+  break_start = s.rest.value.break_start;
+  actions = s.rest.value.actions.items;
   pending = s.pending;
-  clock = s.clock;
-  end = s.end;
+  clock = s.rest.value.clock;
+  end = s.rest.value.end;
 }
 
 -- there are 128 slots and 64 actions; the number of queued real-time signals is kept, and at most 64
 pub record IsKept (s : Inside) : Type 0 where
   pub slots : length s.slots.items ≡ 128
-  pub actions : length s.actions.items ≡ 64
+  pub actions : length s.rest.value.actions.items ≡ 64
   pub counted : s.queued ≡ queued_in s.slots.items s.pending
   pub few : s.queued ≤ 64

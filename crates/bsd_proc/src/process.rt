@@ -53,21 +53,28 @@ impl From<AllocError> for NoMemory {
     }
 }
 
-/// The process, which contracts see as a `ProcessState`. Slots are numbered from 0 to 127. Only `make` takes memory.
+// What a process keeps beside its slots and its pending signals.
 #[derive(Drop)]
-pub struct Process {
-    rules: u8,
-    slots: Vec<Place>,
-    next_tid: u32,
+struct Rest {
     areas: Areas,
     break_at: u64,
     break_start: u64,
     actions: Vec<Action>,
+    clock: u64,
+    end: Option<GuestEnd>,
+}
+
+/// The process, which contracts see as a `ProcessState`. Slots are numbered from 0 to 127. Only `make` takes memory. What no thread
+/// has of its own lies behind a pointer, so that a process, which has 72 bytes, is cheap to move.
+#[derive(Drop)]
+pub struct Process {
+    rules: u8,
+    next_tid: u32,
+    slots: Vec<Place>,
     pending: Pending,
     // How many real-time signals are pending for the process and all slots.
     queued: usize,
-    clock: u64,
-    end: Option<GuestEnd>,
+    rest: Box<Rest>,
 }
 
 impl Model for Process {
@@ -161,18 +168,24 @@ impl Process {
         slots[0].occupy(FIRST_TID, Life::Live);
         let actions = vec![in alloc; Action::by_default(); ACTIONS]?;
         let pending = Pending::make(alloc)?;
-        Ok(Process {
-            rules,
-            slots,
-            next_tid: FIRST_TID + 1,
+        let rest = Rest {
             areas,
             break_at,
             break_start: break_at,
             actions,
-            pending,
-            queued: 0,
             clock: 0,
             end: None,
+        };
+        let Ok(rest) = Box::new(alloc, rest) else {
+            return Err(NoMemory);
+        };
+        Ok(Process {
+            rules,
+            next_tid: FIRST_TID + 1,
+            slots,
+            pending,
+            queued: 0,
+            rest,
         })
     }
 
@@ -260,14 +273,14 @@ impl Process {
         ensures* writes_back { sem 𝓛 (LendsAreas self.entry result) }
         ensures value { result.now ≡ self.old.areas }
     {
-        &mut self.areas
+        &mut self.rest.areas
     }
 
     /// The areas.
     pub fn see_areas(&self) -> &Areas
         ensures { result.now ≡ self.now.areas }
     {
-        &self.areas
+        &self.rest.areas
     }
 
     /// Lends the break, an address.
@@ -275,21 +288,21 @@ impl Process {
         ensures* writes_back { sem 𝓛 (LendsBreak self.entry result) }
         ensures value { result.now ≡ self.old.break_at }
     {
-        &mut self.break_at
+        &mut self.rest.break_at
     }
 
     /// The break.
     pub fn see_break(&self) -> u64
         ensures { result ≡ self.now.break_at }
     {
-        self.break_at
+        self.rest.break_at
     }
 
     /// The break that `make` was given.
     pub fn break_start(&self) -> u64
         ensures { result ≡ self.now.break_start }
     {
-        self.break_start
+        self.rest.break_start
     }
 
     /// Lends the robust list of the slot, which is in use: an address, or 0 for none.
@@ -316,14 +329,14 @@ impl Process {
     pub fn finish(&mut self, end: GuestEnd)
         ensures { self.new ≡ ends.ended self.old end }
     {
-        self.end = Some(end);
+        self.rest.end = Some(end);
     }
 
     /// How the guest ended; `None` exactly where it hasn't.
     pub fn end(&self) -> Option<GuestEnd>
         ensures { result ≡ self.now.end }
     {
-        self.end
+        self.rest.end
     }
 
     /// Until when the slot waits, in microseconds of the clock; `None` exactly where it has no deadline. A free slot has none.
@@ -449,7 +462,7 @@ impl Process {
     pub fn see_action(&self, sig: BsdSig) -> Action
         ensures { result ≡ action_of self.now.actions sig }
     {
-        self.actions[sig.place() as usize]
+        self.rest.actions[sig.place() as usize]
     }
 
     // The signal is pending nowhere any more.
@@ -469,7 +482,7 @@ impl Process {
     {
         let before = self.see_action(sig);
         if let Some(action) = new {
-            self.actions[sig.place() as usize] = action;
+            self.rest.actions[sig.place() as usize] = action;
             if action.ignores(sig) {
                 self.forget(sig);
             }
@@ -482,7 +495,7 @@ impl Process {
         requires { slot < 128 }
         ensures { self.new ≡ asking self.old slot }
     {
-        let asks = self.clock != u64::MAX;
+        let asks = self.rest.clock != u64::MAX;
         self.slots[slot as usize].set_asks(asks);
     }
 
@@ -498,9 +511,9 @@ impl Process {
     fn may_pass(&self, now: u64) -> bool
         ensures { result ≡ clock.may_pass self.now now }
     {
-        self.end.is_none()
-            && self.clock < now
-            && (any_asks(&self.slots) || any_passed(&self.slots, self.clock, now))
+        self.rest.end.is_none()
+            && self.rest.clock < now
+            && (any_asks(&self.slots) || any_passed(&self.slots, self.rest.clock, now))
     }
 
     /// The clock rises to `now`, and all asks end. False exactly where it may not: the guest has ended, the clock isn't below `now`,
@@ -514,7 +527,7 @@ impl Process {
             return false;
         }
         end_asks(&mut self.slots);
-        self.clock = now;
+        self.rest.clock = now;
         true
     }
 
@@ -522,6 +535,6 @@ impl Process {
     pub fn clock(&self) -> u64
         ensures { result ≡ self.now.clock }
     {
-        self.clock
+        self.rest.clock
     }
 }

@@ -4,7 +4,7 @@ use Rattle.guest_mem.specs.declared.shard.Shard.TheInside.{Inside}
 use Rattle.guest_mem.specs.Held.{Held}
 
 abbrev pub held_by : Inside → Held
-held_by inside = record { index = inside.index; pages = inside.pages.pages; marks = inside.marks; spare = inside.pages.spare }
+held_by inside = record { index = inside.index; pages = inside.pages.value.pages; marks = inside.marks; spare = inside.pages.value.spare }
 
 -- it is one of the 16
 abbrev pub IsIndexed : Inside → Type 0

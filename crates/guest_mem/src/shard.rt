@@ -33,10 +33,11 @@ impl From<AllocError> for NoMemory {
 
 /// The pages of one of the 16 shards of a guest's memory that have had a right since they were mapped, with their
 /// rights and bytes, and for each of 128 slots the granule that it has marked last. Page `p` lies in shard `p % 16`.
+/// The pages lie behind a pointer, so that a shard, which has 56 bytes, is cheap to move.
 #[derive(Drop)]
 pub struct Shard {
     index: u8,
-    pages: PageStore,
+    pages: Box<PageStore>,
     marks: Marks,
 }
 
@@ -69,6 +70,7 @@ impl Shard {
         ensures { IfOk result (λ shard. shard ≡ started index share) }
     {
         let pages = PageStore::make(alloc, share)?;
+        let pages = Box::new(alloc, pages).map_err(AllocError::from)?;
         let marks = Marks::make(alloc)?;
         Ok(Shard {
             index,

@@ -20,12 +20,13 @@ pub struct NoMemory;
 
 /// One of FreeBSD's umtx queues: the slot that has made it busy, its waiters in order of queueing with a note for each slot and
 /// place that has left, and a second line of waiters, for locks that name their owner, with notes of its own. Contracts see it as a
-/// `ChainState` (`specs/Chains.antt`). Slots are below 128. Only `make` takes memory.
+/// `ChainState` (`specs/Chains.antt`). Slots are below 128. Only `make` takes memory. The second line lies behind a pointer, so that
+/// a chain, which has 64 bytes, is cheap to move.
 #[derive(Drop)]
 pub struct Chain {
     marked: Option<u8>,
     line: Line,
-    pi: PiLine,
+    pi: Box<PiLine>,
 }
 
 impl Model for Chain {
@@ -36,7 +37,7 @@ impl Model for Chain {
 
     ghost coded = { coded_chain };
 
-    ghost view = { λ c. record { marked = c.marked; line = c.line; pi = c.pi } };
+    ghost view = { λ c. record { marked = c.marked; line = c.line; pi = c.pi.value } };
 }
 
 impl Chain {
@@ -53,6 +54,9 @@ impl Chain {
             return Err(NoMemory);
         };
         let Ok(pi) = PiLine::make(alloc) else {
+            return Err(NoMemory);
+        };
+        let Ok(pi) = Box::new(alloc, pi) else {
             return Err(NoMemory);
         };
         Ok(Chain {
