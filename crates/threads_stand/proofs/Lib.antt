@@ -1,0 +1,12 @@
+pub mod Mapped
+pub mod Calls
+pub mod Threads
+pub mod Stages
+pub mod Waits
+pub mod Phases
+pub mod Signals
+pub mod Actions
+pub mod Tids
+pub mod Places
+pub mod Frames
+pub mod Begins
