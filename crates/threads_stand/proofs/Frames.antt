@@ -1,5 +1,5 @@
--- What keeps the clauses: entries that change one thread and its slot, writes, and Time.
-use Rattle.std.proofs.Common.{◌≡◌, ◌≢◌, ℕ, zero, suc, ◌+◌, ◌-◌, ◌<◌, ◌==◌, Bool, true, false, List, [], ◌∷◌, map, length, Option, Some, None, option_map, if◌then◌else◌, refl, sym, ap, ◌∙◌, subst, arith, ◌⊎◌, inl, inr}
+-- What keeps the clauses: entries that change one thread and its slot, and writes.
+use Rattle.std.proofs.Common.{◌≡◌, ◌≢◌, ℕ, zero, suc, ◌+◌, ◌-◌, ◌<◌, ◌==◌, Bool, true, false, List, [], ◌∷◌, length, Option, Some, None, if◌then◌else◌, refl, sym, ap, ◌∙◌, subst, arith, ◌⊎◌, inl, inr}
 use Rattle.std.proofs.lemmas.Bool.Decides.{nat_tests}
 use Rattle.places.specs.Places as place
 use Rattle.lx_machine.specs.Lists.{at_place}
@@ -7,16 +7,13 @@ use Rattle.lx_machine.specs.Threads.{after_write, mark_left, unmarked, unmarked_
 use Rattle.lx_machine.specs.declared.state.LinuxState.{LinuxState}
 use Rattle.places.specs.declared.limits.TheConstants.{SLOTS}
 use Rattle.lx_machine.specs.declared.threads.LxThread.{LxThread}
-use Rattle.bsd_proc.specs.Clock.{passed}
-use Rattle.bsd_proc.specs.Slots.{ProcessState, Slot, slot_at, with_asks}
+use Rattle.bsd_proc.specs.Slots.{ProcessState, Slot, slot_at}
 use Rattle.bsd_proc.specs.declared.lives.Life.{Life}
 use Rattle.bsd_proc.specs.declared.lives.Life.TheVariants.{Reserved, Live, Dying}
 use Rattle.bsd_thread.specs.declared.thread.ThreadState.{ThreadState}
 use Rattle.threads_stand.specs.Phases.{Fits}
-use Rattle.threads_stand.specs.Slots.{LifeFits, SlotFits, ThreadsSound, TidsDiffer}
-use Rattle.threads_stand.specs.Stands.{InUse, ProcessStands, ThreadStands, ThreadsStand}
-use Rattle.threads_stand.proofs.Mapped.{index_mapped}
-use Rattle.threads_stand.proofs.Tids.{tids_kept}
+use Rattle.threads_stand.specs.Slots.{SlotFits, ThreadsSound, TidsDiffer}
+use Rattle.threads_stand.specs.Stands.{InUse, ThreadStands, ThreadsStand}
 
 same_or_not : (i j : ℕ) → (j ≡ i) ⊎ (j ≢ i)
 same_or_not i j = grind arith
@@ -136,58 +133,3 @@ written_others s at len ts x t o n ne st = by (len == 0)
     by false =
         subst (λ (lt : Option LxThread). ThreadStands t o n lt) (sym (unmarked_place 0 s (place.granule at) (place.granule (at + len - 1)) ts x (λ e. ne (omega arith))))
         (unmarked_stands (place.granule at) (place.granule (at + len - 1)) t o n (at_place ts x) st)
-
--- ---- Time: asks end, and the clock rises
-
-abbrev unasked : Option Slot → Option Slot
-unasked o = option_map (with_asks false) o
-
-slot_passed : (p : ProcessState) (clock s : ℕ) → slot_at (passed p clock) s ≡ unasked (slot_at p s)
-slot_passed p clock s = index_mapped unasked p.slots s None
-
-unasked_stands : (t : ThreadState) (o : Option Slot) (n : ℕ) (lt : Option LxThread) → ThreadStands t o n lt → ThreadStands t (unasked o) n lt
-unasked_stands t None n lt st = st
-unasked_stands t (Some slot) n lt st = by slot.life st
-  where
-    by : (l : Life) → InUse t slot n lt l → InUse t (with_asks false slot) n lt l
-    by Reserved g = record { mask = g.mask; is = g.is }
-    by Live g = record { mark = g.mark; is = g.is }
-    by Dying g = record { mark = g.mark; is = g.is }
-
-unasked_fits : (rules : ℕ) (t : ThreadState) (o : Option Slot) → SlotFits rules t o → SlotFits rules t (unasked o)
-unasked_fits rules t None f = f
-unasked_fits rules t (Some slot) f = by slot.life f
-  where
-    by : (l : Life) → LifeFits rules t slot l → LifeFits rules t (with_asks false slot) l
-    by Reserved g = record { idle = g.idle; fresh = ap (with_asks false) g.fresh }
-    by Live g = record { awake = g.awake; tid = g.tid; deadline = g.deadline }
-    by Dying g = record { started = record { awake = g.started.awake; tid = g.started.tid; deadline = g.started.deadline }; dies = g.dies }
-
-pub passed_threads : (threads : ℕ → Option ThreadState) (p : ProcessState) (rest : ℕ → ℕ) (L : LinuxState) (clock : ℕ) → ThreadsStand threads p rest L → ThreadsStand threads (passed p clock) rest (record L { clock = clock })
-passed_threads threads p rest L clock st = record {
-  places = st.places;
-  each = λ s t e.
-      subst (λ (o : Option Slot). ThreadStands t o (rest s) (at_place L.threads s)) (sym (slot_passed p clock s))
-      (unasked_stands t (slot_at p s) (rest s) (at_place L.threads s) (st.each s t e));
-}
-
-pub passed_process : (p : ProcessState) (L : LinuxState) (clock : ℕ) → ProcessStands p L → ProcessStands (passed p clock) (record L { clock = clock })
-passed_process p L clock h = record { rules = h.rules; next_tid = h.next_tid; break_at = h.break_at; break_start = h.break_start; actions = h.actions; pending = h.pending; clock = refl; end = h.end }
-
-long_map : {X Y : Type 0} (f : X → Y) (xs : List X) → length (map f xs) ≡ length xs
-long_map f [] = refl
-long_map f (x ∷ xs) = ap suc (long_map f xs)
-
-some_unasked : (o : Option Slot) (slot : Slot) → unasked o ≡ Some slot → (old : Slot) × (o ≡ Some old) × (old.tid ≡ slot.tid)
-some_unasked None slot e = absurd (cc)
-some_unasked (Some old) slot e = let f : with_asks false old ≡ slot = cc in (old, refl, ap (λ (z : Slot). z.tid) f)
-
-pub passed_sound : (threads : ℕ → Option ThreadState) (p : ProcessState) (clock : ℕ) → ThreadsSound threads p → ThreadsSound threads (passed p clock)
-passed_sound threads p clock ok = record {
-  there = ok.there;
-  numbered = ok.numbered;
-  fits = ok.fits;
-  lives = λ s t e. subst (λ (o : Option Slot). SlotFits p.rules t o) (sym (slot_passed p clock s)) (unasked_fits p.rules t (slot_at p s) (ok.lives s t e));
-  slots = long_map unasked p.slots ∙ ok.slots;
-  tids = tids_kept p (passed p clock) ok.tids refl (λ s slot e. some_unasked (slot_at p s) slot (sym (slot_passed p clock s) ∙ e));
-}

@@ -10,3 +10,6 @@ pub mod Tids
 pub mod Places
 pub mod Frames
 pub mod Begins
+pub mod Users
+pub mod Actors
+pub mod Processes
