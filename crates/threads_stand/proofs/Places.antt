@@ -1,18 +1,21 @@
 -- What is told of all slots is told of all places: sums, tests and the first that passes, over both lists.
-use Rattle.std.proofs.Common.{◌≡◌, ℕ, zero, suc, ◌+◌, ◌<◌, Bool, true, false, not, ◌||◌, List, [], ◌∷◌, map, length, take, Option, Some, None, option_map, if◌then◌else◌, nat_lt, refl, sym, ap, ◌∙◌, arith}
-use Rattle.std.specs.List.{fold, list_any, position, position_or_len, sum_by}
-use Rattle.std.specs.Prelude.{is_none, slice_index_or}
+use Rattle.std.proofs.Common.{◌≡◌, ℕ, zero, suc, ◌+◌, ◌<◌, ◌==◌, Bool, true, false, not, ◌&&◌, ◌||◌, is_some, List, [], ◌∷◌, map, length, take, Option, Some, None, option_map, if◌then◌else◌, nat_lt, refl, sym, ap, ◌∙◌, arith}
+use Rattle.std.proofs.lemmas.List.Sums.{sum_by-cons, sum_by-set}
+use Rattle.std.specs.List.{count_by, fold, list_all, list_any, position, position_or_len, sum_by}
+use Rattle.std.specs.Prelude.{is_none, slice_index_or, slice_set}
 use Rattle.std.proofs.lemmas.Bool.Decides.{nat_tests}
 use Rattle.lx_machine.specs.Clone.{last_tid, place_for}
 use Rattle.lx_machine.specs.FutexPi.{has_owner, is_owner}
 use Rattle.lx_machine.specs.Lists.{at_place, first_free, first_free_from}
 use Rattle.lx_machine.specs.Signal as lx
+use Rattle.lx_machine.specs.Threads.{has_no_thread}
 use Rattle.lx_machine.specs.Signal.{is_live_as, live_slot, queued_signals, queued_signals_at}
 use Rattle.lx_machine.specs.declared.signals.SigInfo.{SigInfo}
 use Rattle.lx_machine.specs.declared.state.LinuxState.{LinuxState}
 use Rattle.places.specs.declared.limits.TheConstants.{SLOTS}
 use Rattle.lx_machine.specs.declared.threads.LxThread.{LxThread}
 use Rattle.bsd_proc.specs.Births.{slot_for}
+use Rattle.bsd_proc.specs.Ends.{in_use, left}
 use Rattle.bsd_proc.specs.Sending.{queued, queued_at}
 use Rattle.bsd_proc.specs.Signals.{real_time_count}
 use Rattle.bsd_proc.specs.Slots.{ProcessState, Slot, slot_at, slot_limit}
@@ -23,6 +26,7 @@ use Rattle.threads_stand.specs.Image.{linux_thread}
 use Rattle.threads_stand.specs.Numbers.{linux_life}
 use Rattle.threads_stand.specs.Slots.{LifeFits, SlotFits, ThreadsSound, has_live_tid, has_started_tid}
 use Rattle.threads_stand.specs.Stands.{InUse, ProcessStands, ThreadStands, ThreadsStand}
+use Rattle.threads_stand.proofs.Mapped.{set_mapped}
 use Rattle.threads_stand.proofs.Signals.{real_time_count_image}
 
 -- ---- lists that agree place by place
@@ -50,6 +54,16 @@ any_of p (x ∷ xs) = ap (λ (b : Bool). p x || b) (any_of p xs)
 sum_from : {X : Type 0} (f : X → ℕ) (xs : List X) (n : ℕ) → fold (λ a x. a + f x) n xs ≡ fold (λ a b. a + b) n (map f xs)
 sum_from f [] n = refl
 sum_from f (x ∷ xs) n = sum_from f xs (n + f x)
+
+all_of : {X : Type 0} (p : X → Bool) (xs : List X) → list_all p xs ≡ list_all (λ (b : Bool). b) (map p xs)
+all_of p [] = refl
+all_of p (x ∷ xs) = ap (λ (b : Bool). p x && b) (all_of p xs)
+
+-- no place is in use exactly where none is counted
+none_counted : {X : Type 0} (xs : List (Option X)) → list_all is_none xs ≡ (count_by is_some xs == 0)
+none_counted [] = refl
+none_counted (None ∷ xs) = none_counted xs ∙ ap (λ (n : ℕ). n == 0) (let e = sum_by-cons (λ o. if is_some o then 1 else 0) None xs in omega arith)
+none_counted (Some x ∷ xs) = let e = sum_by-cons (λ o. if is_some o then 1 else 0) (Some x) xs in let f : (count_by is_some (Some x ∷ xs) == 0) ≡ false = grind (arith, nat_tests) in sym f
 
 -- the first that passes, element by element
 position_next : {X : Type 0} (p : X → Bool) (x : X) (xs : List X) → position p (x ∷ xs) ≡ (if p x then Some 0 else option_map suc (position p xs))
@@ -94,6 +108,16 @@ take_mapped : {X Y : Type 0} (f : X → Y) (n : ℕ) (xs : List X) → map f (ta
 take_mapped f zero xs = refl
 take_mapped f (suc n) [] = refl
 take_mapped {Y = Y} f (suc n) (x ∷ xs) = ap (λ (l : List Y). f x ∷ l) (take_mapped f n xs)
+
+-- how many slots are in use once one of them is free
+abbrev one_if : Option Slot → ℕ
+one_if o = if is_some o then 1 else 0
+
+pub in_use_left : (p : ProcessState) (s : ℕ) (slot : Slot) → s < length p.slots → slot_at p s ≡ Some slot → in_use (left p s) + 1 ≡ in_use p
+in_use_left p s slot less there =
+    let e : in_use (left p s) + one_if (slot_at p s) ≡ in_use p + 0 = sum_by-set one_if p.slots s None None less in
+    let f : one_if (slot_at p s) ≡ 1 = ap one_if there in
+    omega arith
 
 -- ---- a slot and its place
 
@@ -191,3 +215,13 @@ module _ (threads : ℕ → Option ThreadState) (p : ProcessState) (rest : ℕ �
 
       first : first_free (take n L.threads) ≡ position is_none (take n p.slots)
       first = first_free_is (take n L.threads) ∙ position_of is_none (take n L.threads) ∙ ap (λ (l : List Bool). position (λ (b : Bool). b) l) free ∙ sym (position_of is_none (take n p.slots))
+
+  -- whether the thread of slot s is the only one
+  pub alone_image : (s : ℕ) → has_no_thread (slice_set L.threads s None) ≡ (in_use (left p s) == 0)
+  alone_image s =
+      all_of is_none (slice_set L.threads s None)
+      ∙ ap (λ (l : List Bool). list_all (λ (b : Bool). b) l)
+      (sym (set_mapped is_none L.threads s None)
+      ∙ ap (λ (l : List Bool). slice_set l s true) (agree (λ (lt : Option LxThread). is_none lt) (λ (o : Option Slot). is_none o) (λ t o k lt f g. free_in_place t o k lt g))
+      ∙ set_mapped is_none p.slots s None)
+      ∙ sym (all_of is_none (slice_set p.slots s None)) ∙ none_counted (slice_set p.slots s None)
