@@ -50,7 +50,8 @@ pub record InPlace (t : ThreadState) (slot : Slot) (rest : ℕ) (lt : Option LxT
   pub mark : Option ℕ
   pub is : lt ≡ Some (linux_thread t t.phase slot mark rest)
 
-pub in_place : (rules : ℕ) (t : ThreadState) (slot : Slot) (rest : ℕ) (lt : Option LxThread) → t.phase ≢ phase.Idle → LifeFits rules t slot slot.life → ThreadStands t (Some slot) rest lt → InPlace t slot rest lt
+pub in_place : (rules : ℕ) (t : ThreadState) (slot : Slot) (rest : ℕ) (lt : Option LxThread) → t.phase ≢ phase.Idle
+    → LifeFits rules t slot slot.life → ThreadStands t (Some slot) rest lt → InPlace t slot rest lt
 in_place rules t slot rest lt ne fits st = by slot.life fits st
   where
     by : (l : Life) → LifeFits rules t slot l → InUse t slot rest lt l → InPlace t slot rest lt
@@ -59,7 +60,8 @@ in_place rules t slot rest lt ne fits st = by slot.life fits st
     by Dying f g = record { mark = g.mark; is = g.is }
 
 -- and whatever stands there as its image stands for it
-pub stands_there : (rules : ℕ) (t : ThreadState) (slot : Slot) (rest : ℕ) (m : Option ℕ) → t.phase ≢ phase.Idle → LifeFits rules t slot slot.life → ThreadStands t (Some slot) rest (Some (linux_thread t t.phase slot m rest))
+pub stands_there : (rules : ℕ) (t : ThreadState) (slot : Slot) (rest : ℕ) (m : Option ℕ) → t.phase ≢ phase.Idle
+    → LifeFits rules t slot slot.life → ThreadStands t (Some slot) rest (Some (linux_thread t t.phase slot m rest))
 stands_there rules t slot rest m ne fits = by slot.life fits
   where
     by : (l : Life) → LifeFits rules t slot l → InUse t slot rest (Some (linux_thread t t.phase slot m rest)) l
@@ -86,7 +88,8 @@ actor_of threads p rest L s t ok st here ne =
 -- ---- its step
 
 -- of a call, by the stage that it has
-pub step_in_call : (L : LinuxState) (s : ℕ) (t : ThreadState) (p : Phase) (slot : Slot) (m : Option ℕ) (rest : ℕ) (st : Stage) (f : Stage → InCall)
+pub step_in_call : (L : LinuxState) (s : ℕ) (t : ThreadState) (p : Phase) (slot : Slot) (m : Option ℕ) (rest : ℕ) (st : Stage)
+    → (f : Stage → InCall)
     → at_place L.threads s ≡ Some (linux_thread t p slot m rest) → has_call p ≡ true → stage_of (linux_call p t.call rest) ≡ st
     → in_call L s f ≡ f st (without_thread L s) s (linux_thread t phase.User slot m 0) (linux_call p t.call rest)
 step_in_call L s t p slot m rest st f there inside next =
@@ -94,12 +97,14 @@ step_in_call L s t p slot m rest st f there inside next =
     ∙ ap (λ (z : LxThread). f st (without_thread L s) s z (linux_call p t.call rest)) (image_without_call t p slot m rest inside)
 
 -- of a thread, whatever it is in
-pub step_of_thread : (L : LinuxState) (s : ℕ) (lt : LxThread) (f : OfThread) → at_place L.threads s ≡ Some lt → on_thread L s f ≡ f (without_thread L s) s lt
+pub step_of_thread : (L : LinuxState) (s : ℕ) (lt : LxThread) (f : OfThread) → at_place L.threads s ≡ Some lt
+    → on_thread L s f ≡ f (without_thread L s) s lt
 step_of_thread L s lt f there = ap (λ (o : Option LxThread). bind o (λ z. f (without_thread L s) s z)) there
 
 -- of a live thread that takes an instruction
 pub step_of_user : (L : LinuxState) (s : ℕ) (t : ThreadState) (slot : Slot) (m : Option ℕ) (rest : ℕ) (f : LxThread → Option LinuxState)
-    → at_place L.threads s ≡ Some (linux_thread t phase.User slot m rest) → slot.life ≡ Live → outside_call L s f ≡ f (linux_thread t phase.User slot m rest)
+    → at_place L.threads s ≡ Some (linux_thread t phase.User slot m rest) → slot.life ≡ Live → outside_call L s f
+    ≡ f (linux_thread t phase.User slot m rest)
 step_of_user L s t slot m rest f there live =
     ap (λ (o : Option LxThread). bind o (λ z. if is_user z then f z else None)) there
     ∙ ap (λ (b : Bool). if b then f (linux_thread t phase.User slot m rest) else None) user
@@ -116,17 +121,20 @@ long_set (y ∷ xs) (suc k) x = ap suc (long_set xs k x)
 
 module _ (threads now : ℕ → Option ThreadState) (s : ℕ) (t : ThreadState) (here : now s ≡ Some t) (others : (x : ℕ) → x ≢ s → now x ≡ threads x) (p q : ProcessState) (slots : (x : ℕ) → x ≢ s → slot_at q x ≡ slot_at p x) (rest rests : ℕ → ℕ) (same_rest : (x : ℕ) → x ≢ s → rests x ≡ rest x) (L M : LinuxState) (was : LxThread) (there : at_place L.threads s ≡ Some was) (lt : LxThread) where
   -- its place was made free and filled again
-  pub stands_refilled : M.threads ≡ slice_set (slice_set L.threads s None) s (Some lt) → ThreadsStand threads p rest L → ThreadStands t (slot_at q s) (rests s) (Some lt) → ThreadsStand now q rests M
+  pub stands_refilled : M.threads ≡ slice_set (slice_set L.threads s None) s (Some lt) → ThreadsStand threads p rest L
+      → ThreadStands t (slot_at q s) (rests s) (Some lt) → ThreadsStand now q rests M
   stands_refilled made st own =
       stands_own threads now s t here others p q slots rest rests same_rest L M room
       (λ x u o n ne h. subst (λ (z : Option LxThread). ThreadStands u o n z) (sym (ap (λ (l : List (Option LxThread)). at_place l x) made ∙ place-refilled_other L.threads s x lt ne)) h) st
       (subst (λ (z : Option LxThread). ThreadStands t (slot_at q s) (rests s) z) (sym (ap (λ (l : List (Option LxThread)). at_place l s) made ∙ place-refilled L.threads s was lt there)) own)
     where
       room : length M.threads ≡ length L.threads
-      room = ap (λ (l : List (Option LxThread)). length l) made ∙ long_set (slice_set L.threads s None) s (Some lt) ∙ long_set L.threads s None
+      room =
+          ap (λ (l : List (Option LxThread)). length l) made ∙ long_set (slice_set L.threads s None) s (Some lt) ∙ long_set L.threads s None
 
   -- and bytes were written between
-  pub stands_written : (at len : ℕ) → M.threads ≡ slice_set (after_write s at len (slice_set L.threads s None)) s (Some lt) → ThreadsStand threads p rest L → ThreadStands t (slot_at q s) (rests s) (Some lt) → ThreadsStand now q rests M
+  pub stands_written : (at len : ℕ) → M.threads ≡ slice_set (after_write s at len (slice_set L.threads s None)) s (Some lt)
+      → ThreadsStand threads p rest L → ThreadStands t (slot_at q s) (rests s) (Some lt) → ThreadsStand now q rests M
   stands_written at len made st own =
       stands_own threads now s t here others p q slots rest rests same_rest L M (room ∙ shorter) other st
       (subst (λ (z : Option LxThread). ThreadStands t (slot_at q s) (rests s) z) (sym (ap (λ (l : List (Option LxThread)). at_place l s) made ∙ place-within written s lt less)) own)
@@ -143,9 +151,11 @@ module _ (threads now : ℕ → Option ThreadState) (s : ℕ) (t : ThreadState) 
       less : s < length written
       less = let a = place-there L.threads s was there in let e = shorter in omega arith
 
-      other : (x : ℕ) (u : ThreadState) (o : Option Slot) (n : ℕ) → x ≢ s → ThreadStands u o n (at_place L.threads x) → ThreadStands u o n (at_place M.threads x)
+      other : (x : ℕ) (u : ThreadState) (o : Option Slot) (n : ℕ) → x ≢ s → ThreadStands u o n (at_place L.threads x)
+          → ThreadStands u o n (at_place M.threads x)
       other x u o n ne h =
-          subst (λ (z : Option LxThread). ThreadStands u o n z) (sym (ap (λ (l : List (Option LxThread)). at_place l x) made ∙ place-set_other written s x (Some lt) ne))
+          subst (λ (z : Option LxThread). ThreadStands u o n z)
+          (sym (ap (λ (l : List (Option LxThread)). at_place l x) made ∙ place-set_other written s x (Some lt) ne))
           (written_others s at len (slice_set L.threads s None) x u o n ne
           (subst (λ (z : Option LxThread). ThreadStands u o n z) (sym (place-set_other L.threads s x None ne)) h))
 

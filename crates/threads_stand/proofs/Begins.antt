@@ -64,7 +64,8 @@ module _ (regs : Regs) (areas : List Area) (break_at rules : ℕ) where
 
   pub begins_sound : ThreadsSound (boot_threads regs) p
   begins_sound = record {
-    there = λ s less. (boot_thread regs s, (let e : nat_lt s SLOTS ≡ true = grind (arith, nat_tests) in ap (λ (b : Bool). if b then Some (boot_thread regs s) else None) e));
+    there =
+        λ s less. (boot_thread regs s, (let e : nat_lt s SLOTS ≡ true = grind (arith, nat_tests) in ap (λ (b : Bool). if b then Some (boot_thread regs s) else None) e));
     numbered = λ s t e. subst (λ (z : ThreadState). z.slot ≡ s) (is_boot s t e) (numbered s);
     fits = λ s t e. subst (λ (z : ThreadState). Fits z.call z.phase) (is_boot s t e) (fits s);
     lives = λ s t e. subst (λ (z : ThreadState). SlotFits rules z (slot_at p s)) (is_boot s t e) (lives s);
@@ -90,12 +91,15 @@ module _ (image : Image) (name : List ℕ) (arguments : List (List ℕ)) (input 
 
   each : (s : ℕ) → ThreadStands (boot_thread first s) (slot_at q s) 0 (at_place L.threads s)
   each zero = record { mark = None; is = first_image first }
-  each (suc s) = subst (λ (o : Option Slot). ThreadStands (boot_thread first (suc s)) o 0 (at_place L.threads (suc s))) (sym (none_at 127 s)) (no_place 127 s)
+  each (suc s) =
+      subst (λ (o : Option Slot). ThreadStands (boot_thread first (suc s)) o 0 (at_place L.threads (suc s))) (sym (none_at 127 s))
+      (no_place 127 s)
 
   pub begins_threads : ThreadsStand (boot_threads first) q (λ s. 0) L
   begins_threads = record {
     places = refl;
-    each = λ s t e. subst (λ (z : ThreadState). ThreadStands z (slot_at q s) 0 (at_place L.threads s)) (is_boot first areas (last_end image.segments * 4096) rules s t e) (each s);
+    each =
+        λ s t e. subst (λ (z : ThreadState). ThreadStands z (slot_at q s) 0 (at_place L.threads s)) (is_boot first areas (last_end image.segments * 4096) rules s t e) (each s);
   }
 
   pub begins_process : ProcessStands q L

@@ -37,7 +37,8 @@ copies_image c pieces = refl
 pub answers_image : (c : Call) (a : Answer) → resting (answers c a) ≡ answered (resting c) (linux_answer a)
 answers_image c a = refl
 
-pub answers_with_image : (c : Call) (a : Answer) (pieces : List Piece) (bytes : List ℕ) → resting (answers_with c a pieces bytes) ≡ answered_with (resting c) (linux_answer a) pieces bytes
+pub answers_with_image : (c : Call) (a : Answer) (pieces : List Piece) (bytes : List ℕ)
+    → resting (answers_with c a pieces bytes) ≡ answered_with (resting c) (linux_answer a) pieces bytes
 answers_with_image c a pieces bytes = refl
 
 pub refuses_image : (c : Call) (e : BsdErrno) → resting (refuses c e) ≡ refused (resting c) (errno_out_of e)
@@ -49,7 +50,8 @@ refuses_in_image c e = ap (λ (z : LinuxErrno). refused (resting c) z) (errno_ba
 
 -- ---- SVC
 
-entered_by : (sp : ℕ) (c : Call) (r : Rules) (o : Option LinuxErrno) → resting (refuses_or_copies c (option_map errno_in_of o) (r.pieces sp (resting c))) ≡ entered_unless sp (resting c) r o
+entered_by : (sp : ℕ) (c : Call) (r : Rules) (o : Option LinuxErrno)
+    → resting (refuses_or_copies c (option_map errno_in_of o) (r.pieces sp (resting c))) ≡ entered_unless sp (resting c) r o
 entered_by sp c r (Some e) = refuses_in_image c e
 entered_by sp c r None = refl
 
@@ -64,7 +66,8 @@ pub has_fetched_image : (c : Call) (bytes : List ℕ) → resting (has_fetched c
 has_fetched_image c bytes = refl
 
 -- where the bytes stand in the buffer already
-pub passes_fetched_image : (c : Call) (bytes : List ℕ) → resting (passes_fetched (record c { bytes = c.bytes ++ bytes })) ≡ with_fetched (resting c) bytes
+pub passes_fetched_image : (c : Call) (bytes : List ℕ)
+    → resting (passes_fetched (record c { bytes = c.bytes ++ bytes })) ≡ with_fetched (resting c) bytes
 passes_fetched_image c bytes = refl
 
 pub has_stored_image : (c : Call) (len : ℕ) → resting (has_stored c len) ≡ with_stored (resting c) len
@@ -72,7 +75,8 @@ has_stored_image c len = refl
 
 -- ---- waits
 
-pub timed_image : (c : Call) (deadline : ℕ) → resting (record c { deadline = Some deadline; bytes = [] }) ≡ with_deadline (resting c) deadline
+pub timed_image : (c : Call) (deadline : ℕ)
+    → resting (record c { deadline = Some deadline; bytes = [] }) ≡ with_deadline (resting c) deadline
 timed_image c deadline = refl
 
 pub kept_image : (c : Call) (k : Kept) → resting (record c { kept = Some k }) ≡ with_kept (resting c) (linux_kept k)
@@ -83,11 +87,13 @@ pub stopped_image : (c : Call) → resting (record c { queued = 0; refusal = Non
 stopped_image c = refl
 
 -- a place of futex_waitv was refused
-pub place_refused_image : (c : Call) (e : LinuxErrno) → resting (record c { refusal = Some (errno_in_of e) }) ≡ record (resting c) { refusal = Some e }
+pub place_refused_image : (c : Call) (e : LinuxErrno)
+    → resting (record c { refusal = Some (errno_in_of e) }) ≡ record (resting c) { refusal = Some e }
 place_refused_image c e = ap (λ (z : LinuxErrno). record (resting c) { refusal = Some z }) (errno_back e)
 
 -- the wait of any other call
-pub inserting_one : (c : Call) (turn : Turn) → is_many c ≡ false → linux_call (phase.Finish turn owed.Insertion) c 0 ≡ record (resting c) { waits = true }
+pub inserting_one : (c : Call) (turn : Turn) → is_many c ≡ false
+    → linux_call (phase.Finish turn owed.Insertion) c 0 ≡ record (resting c) { waits = true }
 inserting_one c turn one = ap (λ (b : Bool). record (resting c) { waits = not b }) one
 
 pub sleeping_one : (c : Call) → is_many c ≡ false → linux_call phase.Sleep c 0 ≡ record (resting c) { waits = true }
@@ -103,7 +109,8 @@ sleeping_many c many = ap (λ (b : Bool). record (resting c) { waits = not b }) 
 -- ---- counts
 
 -- as it begins to count, its number is what the chains hold for it; and each Finish leaves the sum
-pub counting_image : (c : Call) (turn : Turn) (rest n : ℕ) → n ≡ c.counted + rest → linux_call (phase.Finish turn owed.Counted) c rest ≡ answered (resting c) n
+pub counting_image : (c : Call) (turn : Turn) (rest n : ℕ) → n ≡ c.counted + rest
+    → linux_call (phase.Finish turn owed.Counted) c rest ≡ answered (resting c) n
 counting_image c turn rest n sum = ap (λ (z : ℕ). answered (resting c) z) (sym sum)
 
 -- when nothing is left to be counted, it has its answer

@@ -24,7 +24,8 @@ module _ (threads now : ℕ → Option ThreadState) (s : ℕ) (t : ThreadState) 
   is_here : (u : ThreadState) → now s ≡ Some u → t ≡ u
   is_here u e = let f = here in cc
 
-  pub sound_own : ThreadsSound threads p → t.slot ≡ s → Fits t.call t.phase → SlotFits q.rules t (slot_at q s) → q.rules ≡ p.rules → length q.slots ≡ length p.slots → TidsDiffer q → ThreadsSound now q
+  pub sound_own : ThreadsSound threads p → t.slot ≡ s → Fits t.call t.phase → SlotFits q.rules t (slot_at q s) → q.rules ≡ p.rules
+      → length q.slots ≡ length p.slots → TidsDiffer q → ThreadsSound now q
   sound_own ok numbered fits lives rules room tids = record {
     there = λ x less. at_there x less (same_or_not s x);
     numbered = λ x u e. at_number x u e (same_or_not s x);
@@ -53,20 +54,25 @@ module _ (threads now : ℕ → Option ThreadState) (s : ℕ) (t : ThreadState) 
       at_fits x u e (inr ne) = ok.fits x u (was x u ne e)
 
       at_lives : (x : ℕ) (u : ThreadState) → now x ≡ Some u → (x ≡ s) ⊎ (x ≢ s) → SlotFits q.rules u (slot_at q x)
-      at_lives x u e (inl same) = subst (λ (z : ThreadState). SlotFits q.rules z (slot_at q x)) (own x u same e) (subst (λ (y : ℕ). SlotFits q.rules t (slot_at q y)) (sym same) lives)
+      at_lives x u e (inl same) =
+          subst (λ (z : ThreadState). SlotFits q.rules z (slot_at q x)) (own x u same e)
+          (subst (λ (y : ℕ). SlotFits q.rules t (slot_at q y)) (sym same) lives)
       at_lives x u e (inr ne) =
-          subst (λ (o : Option Slot). SlotFits q.rules u o) (sym (slots x ne)) (subst (λ (n : ℕ). SlotFits n u (slot_at p x)) (sym rules) (ok.lives x u (was x u ne e)))
+          subst (λ (o : Option Slot). SlotFits q.rules u o) (sym (slots x ne))
+          (subst (λ (n : ℕ). SlotFits n u (slot_at p x)) (sym rules) (ok.lives x u (was x u ne e)))
 
   module _ (rest rests : ℕ → ℕ) (same_rest : (x : ℕ) → x ≢ s → rests x ≡ rest x) (L M : LinuxState) (room : length M.threads ≡ length L.threads) where
     -- where the other places are as they were, or stand as they did
-    pub stands_own : ((x : ℕ) (u : ThreadState) (o : Option Slot) (n : ℕ) → x ≢ s → ThreadStands u o n (at_place L.threads x) → ThreadStands u o n (at_place M.threads x))
+    pub stands_own : ((x : ℕ) (u : ThreadState) (o : Option Slot) (n : ℕ) → x ≢ s → ThreadStands u o n (at_place L.threads x)
+        → ThreadStands u o n (at_place M.threads x))
         → ThreadsStand threads p rest L → ThreadStands t (slot_at q s) (rests s) (at_place M.threads s) → ThreadsStand now q rests M
     stands_own places st own = record {
       places = room ∙ st.places;
       each = λ x u e. at_each x u e (same_or_not s x);
     }
       where
-        at_each : (x : ℕ) (u : ThreadState) → now x ≡ Some u → (x ≡ s) ⊎ (x ≢ s) → ThreadStands u (slot_at q x) (rests x) (at_place M.threads x)
+        at_each : (x : ℕ) (u : ThreadState) → now x ≡ Some u → (x ≡ s) ⊎ (x ≢ s)
+            → ThreadStands u (slot_at q x) (rests x) (at_place M.threads x)
         at_each x u e (inl same) =
             subst (λ (z : ThreadState). ThreadStands z (slot_at q x) (rests x) (at_place M.threads x)) (is_here u (sym (ap now same) ∙ e))
             (subst (λ (y : ℕ). ThreadStands t (slot_at q y) (rests y) (at_place M.threads y)) (sym same) own)
@@ -75,12 +81,15 @@ module _ (threads now : ℕ → Option ThreadState) (s : ℕ) (t : ThreadState) 
             (subst (λ (o : Option Slot). ThreadStands u o (rests x) (at_place L.threads x)) (sym (slots x ne))
             (subst (λ (n : ℕ). ThreadStands u (slot_at p x) n (at_place L.threads x)) (sym (same_rest x ne)) (st.each x u (sym (others x ne) ∙ e))))
 
-    pub stands_alone : ((x : ℕ) → x ≢ s → at_place M.threads x ≡ at_place L.threads x) → ThreadsStand threads p rest L → ThreadStands t (slot_at q s) (rests s) (at_place M.threads s) → ThreadsStand now q rests M
-    stands_alone same st own = stands_own (λ x u o n ne h. subst (λ (lt : Option LxThread). ThreadStands u o n lt) (sym (same x ne)) h) st own
+    pub stands_alone : ((x : ℕ) → x ≢ s → at_place M.threads x ≡ at_place L.threads x) → ThreadsStand threads p rest L
+        → ThreadStands t (slot_at q s) (rests s) (at_place M.threads s) → ThreadsStand now q rests M
+    stands_alone same st own =
+        stands_own (λ x u o n ne h. subst (λ (lt : Option LxThread). ThreadStands u o n lt) (sym (same x ne)) h) st own
 
 -- ---- writes: marks of others end, of which the clause says nothing
 
-pub unmarked_stands : (first last : ℕ) (t : ThreadState) (o : Option Slot) (n : ℕ) (lt : Option LxThread) → ThreadStands t o n lt → ThreadStands t o n (unmarked first last lt)
+pub unmarked_stands : (first last : ℕ) (t : ThreadState) (o : Option Slot) (n : ℕ) (lt : Option LxThread) → ThreadStands t o n lt
+    → ThreadStands t o n (unmarked first last lt)
 unmarked_stands first last t None n lt st = ap (unmarked first last) st
 unmarked_stands first last t (Some slot) n lt st = by slot.life st
   where
@@ -89,7 +98,8 @@ unmarked_stands first last t (Some slot) n lt st = by slot.life st
     by Live g = record { mark = mark_left first last g.mark; is = ap (unmarked first last) g.is }
     by Dying g = record { mark = mark_left first last g.mark; is = ap (unmarked first last) g.is }
 
-unmarked_place : (k s first last : ℕ) (ts : List (Option LxThread)) (x : ℕ) → k + x ≢ s → at_place (unmarked_from k s first last ts) x ≡ unmarked first last (at_place ts x)
+unmarked_place : (k s first last : ℕ) (ts : List (Option LxThread)) (x : ℕ) → k + x ≢ s
+    → at_place (unmarked_from k s first last ts) x ≡ unmarked first last (at_place ts x)
 unmarked_place k s first last [] x ne = refl
 unmarked_place k s first last (t ∷ ts) zero ne =
     let f : k + 0 ≡ k = omega arith in
@@ -98,7 +108,8 @@ unmarked_place k s first last (t ∷ ts) zero ne =
     ap (λ (b : Bool). if b then t else unmarked first last t) h
 unmarked_place k s first last (t ∷ ts) (suc x) ne = unmarked_place (suc k) s first last ts x (λ e. ne (omega arith))
 
-unmarked_own : (k s first last : ℕ) (ts : List (Option LxThread)) (x : ℕ) → k + x ≡ s → at_place (unmarked_from k s first last ts) x ≡ at_place ts x
+unmarked_own : (k s first last : ℕ) (ts : List (Option LxThread)) (x : ℕ) → k + x ≡ s
+    → at_place (unmarked_from k s first last ts) x ≡ at_place ts x
 unmarked_own k s first last [] x e = refl
 unmarked_own k s first last (t ∷ ts) zero e =
     let f : k ≡ s = omega arith in
@@ -125,11 +136,14 @@ written_long s at len ts = by (len == 0)
     by true = refl
     by false = unmarked_long 0 s (place.granule at) (place.granule (at + len - 1)) ts
 
-pub written_others : (s at len : ℕ) (ts : List (Option LxThread)) (x : ℕ) (t : ThreadState) (o : Option Slot) (n : ℕ) → x ≢ s → ThreadStands t o n (at_place ts x) → ThreadStands t o n (at_place (after_write s at len ts) x)
+pub written_others : (s at len : ℕ) (ts : List (Option LxThread)) (x : ℕ) (t : ThreadState) (o : Option Slot) (n : ℕ) → x ≢ s
+    → ThreadStands t o n (at_place ts x) → ThreadStands t o n (at_place (after_write s at len ts) x)
 written_others s at len ts x t o n ne st = by (len == 0)
   where
-    by : (b : Bool) → ThreadStands t o n (at_place (if b then ts else unmarked_from 0 s (place.granule at) (place.granule (at + len - 1)) ts) x)
+    by : (b : Bool)
+        → ThreadStands t o n (at_place (if b then ts else unmarked_from 0 s (place.granule at) (place.granule (at + len - 1)) ts) x)
     by true = st
     by false =
-        subst (λ (lt : Option LxThread). ThreadStands t o n lt) (sym (unmarked_place 0 s (place.granule at) (place.granule (at + len - 1)) ts x (λ e. ne (omega arith))))
+        subst (λ (lt : Option LxThread). ThreadStands t o n lt)
+        (sym (unmarked_place 0 s (place.granule at) (place.granule (at + len - 1)) ts x (λ e. ne (omega arith))))
         (unmarked_stands (place.granule at) (place.granule (at + len - 1)) t o n (at_place ts x) st)

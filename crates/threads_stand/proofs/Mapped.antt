@@ -11,7 +11,9 @@ cut_first {X = X} test x xs = by (test x)
     n : ℕ
     n = position_or_len test xs
 
-    by : (b : Bool) → take (if not b then 1 + n else 0) (x ∷ xs) ++ drop ((if not b then 1 + n else 0) + 1) (x ∷ xs) ≡ (if b then xs else (x ∷ (take n xs ++ drop (n + 1) xs)))
+    by : (b : Bool)
+        → take (if not b then 1 + n else 0) (x ∷ xs) ++ drop ((if not b then 1 + n else 0) + 1) (x ∷ xs)
+        ≡ (if b then xs else (x ∷ (take n xs ++ drop (n + 1) xs)))
     by true = refl
     by false =
         let e : 1 + n ≡ suc n = omega arith in
@@ -23,7 +25,8 @@ module _ {X Y : Type 0} (f : X → Y) where
   find_mapped p q e [] = refl
   find_mapped p q e (x ∷ xs) = by (p (f x)) (q x) (e x) (find_mapped p q e xs)
     where
-      by : (b c : Bool) → b ≡ c → find p (map f xs) ≡ option_map f (find q xs) → (if b then Some (f x) else find p (map f xs)) ≡ option_map f (if c then Some x else find q xs)
+      by : (b c : Bool) → b ≡ c → find p (map f xs) ≡ option_map f (find q xs)
+          → (if b then Some (f x) else find p (map f xs)) ≡ option_map f (if c then Some x else find q xs)
       by true true h next = refl
       by false false h next = next
       by true false h next = absurd (cc)
@@ -33,13 +36,15 @@ module _ {X Y : Type 0} (f : X → Y) where
   filter_mapped p q e [] = refl
   filter_mapped p q e (x ∷ xs) = by (p (f x)) (q x) (e x) (filter_mapped p q e xs)
     where
-      by : (b c : Bool) → b ≡ c → filter p (map f xs) ≡ map f (filter q xs) → (if b then (f x ∷ filter p (map f xs)) else filter p (map f xs)) ≡ map f (if c then (x ∷ filter q xs) else filter q xs)
+      by : (b c : Bool) → b ≡ c → filter p (map f xs) ≡ map f (filter q xs)
+          → (if b then (f x ∷ filter p (map f xs)) else filter p (map f xs)) ≡ map f (if c then (x ∷ filter q xs) else filter q xs)
       by true true h next = ap (λ (l : List Y). f x ∷ l) next
       by false false h next = next
       by true false h next = absurd (cc)
       by false true h next = absurd (cc)
 
-  pub fold_mapped : {A : Type 0} (g : A → Y → A) (h : A → X → A) → ((a : A) (x : X) → g a (f x) ≡ h a x) → (xs : List X) (a : A) → fold g a (map f xs) ≡ fold h a xs
+  pub fold_mapped : {A : Type 0} (g : A → Y → A) (h : A → X → A) → ((a : A) (x : X) → g a (f x) ≡ h a x) → (xs : List X) (a : A)
+      → fold g a (map f xs) ≡ fold h a xs
   fold_mapped g h e [] a = refl
   fold_mapped g h e (x ∷ xs) a = ap (λ b. fold g b (map f xs)) (e a x) ∙ fold_mapped g h e xs (h a x)
 

@@ -89,13 +89,56 @@ in_next P c all = in_stage P (resting c) all (stage_of (resting c))
 
 -- it is a phase of a call
 pub call_next : (c : Call) → has_call (next_phase c) ≡ true
-call_next c = in_next (λ p. has_call p ≡ true) c (record { fetch_ = refl; hold_ = refl; drop_ = refl; process_ = refl; space_ = refl; files_ = refl; flux_ = refl; look_ = refl; ask_ = refl; busy_ = refl; release_ = refl; sleep_ = refl; rest_ = refl; start_ = refl; store_ = refl; clear_ = refl; leave_ = refl; gone_ = refl; kill_ = refl; return_ = refl })
+call_next c =
+    in_next (λ p. has_call p ≡ true) c (record {
+      fetch_ = refl;
+      hold_ = refl;
+      drop_ = refl;
+      process_ = refl;
+      space_ = refl;
+      files_ = refl;
+      flux_ = refl;
+      look_ = refl;
+      ask_ = refl;
+      busy_ = refl;
+      release_ = refl;
+      sleep_ = refl;
+      rest_ = refl;
+      start_ = refl;
+      store_ = refl;
+      clear_ = refl;
+      leave_ = refl;
+      gone_ = refl;
+      kill_ = refl;
+      return_ = refl;
+    })
 
 -- it fits its call
 pub fits_next : (c : Call) → Fits c (next_phase c)
 fits_next c =
     in_next (λ p. next_phase c ≡ p → Fits c p) c
-    (record { fetch_ = (λ e. e); hold_ = (λ e. e); drop_ = (λ e. e); process_ = (λ e. e); space_ = (λ e. e); files_ = (λ e. e); flux_ = (λ e. e); look_ = (λ e. e); ask_ = (λ e. e); busy_ = (λ e. e); release_ = (λ e. e); sleep_ = sleeps; rest_ = (λ e. e); start_ = (λ e. e); store_ = (λ e. e); clear_ = (λ e. e); leave_ = (λ e. e); gone_ = (λ e. e); kill_ = (λ e. e); return_ = (λ e. e) })
+    (record {
+      fetch_ = (λ e. e);
+      hold_ = (λ e. e);
+      drop_ = (λ e. e);
+      process_ = (λ e. e);
+      space_ = (λ e. e);
+      files_ = (λ e. e);
+      flux_ = (λ e. e);
+      look_ = (λ e. e);
+      ask_ = (λ e. e);
+      busy_ = (λ e. e);
+      release_ = (λ e. e);
+      sleep_ = sleeps;
+      rest_ = (λ e. e);
+      start_ = (λ e. e);
+      store_ = (λ e. e);
+      clear_ = (λ e. e);
+      leave_ = (λ e. e);
+      gone_ = (λ e. e);
+      kill_ = (λ e. e);
+      return_ = (λ e. e);
+    })
     refl
   where
     sleeps : next_phase c ≡ phase.Sleep → next_in phase.Sleep c ≡ phase.Sleep
@@ -105,12 +148,34 @@ fits_next c =
 pub rests_next : (c : Call) → linux_call (next_phase c) c 0 ≡ resting c
 rests_next c =
     in_next (λ p. next_phase c ≡ p → linux_call p c 0 ≡ resting c) c
-    (record { fetch_ = (λ e. refl); hold_ = (λ e. refl); drop_ = (λ e. refl); process_ = (λ e. refl); space_ = (λ e. refl); files_ = (λ e. refl); flux_ = (λ e. refl); look_ = (λ e. refl); ask_ = (λ e. refl); busy_ = (λ e. refl); release_ = (λ e. refl); sleep_ = (λ e. sleeping_many c (many_sleeps c e)); rest_ = (λ e. refl); start_ = (λ e. refl); store_ = (λ e. refl); clear_ = (λ e. refl); leave_ = (λ e. refl); gone_ = (λ e. refl); kill_ = (λ e. refl); return_ = (λ e. refl) })
+    (record {
+      fetch_ = (λ e. refl);
+      hold_ = (λ e. refl);
+      drop_ = (λ e. refl);
+      process_ = (λ e. refl);
+      space_ = (λ e. refl);
+      files_ = (λ e. refl);
+      flux_ = (λ e. refl);
+      look_ = (λ e. refl);
+      ask_ = (λ e. refl);
+      busy_ = (λ e. refl);
+      release_ = (λ e. refl);
+      sleep_ = (λ e. sleeping_many c (many_sleeps c e));
+      rest_ = (λ e. refl);
+      start_ = (λ e. refl);
+      store_ = (λ e. refl);
+      clear_ = (λ e. refl);
+      leave_ = (λ e. refl);
+      gone_ = (λ e. refl);
+      kill_ = (λ e. refl);
+      return_ = (λ e. refl);
+    })
     refl
 
 -- the image of a thread at the next phase of its call: the thread outside a call, in this call
 pub image_next : (t : ThreadState) (c : Call) (slot : Slot) (m : Option ℕ)
-    → linux_thread (record t { call = c; phase = next_phase c }) (next_phase c) slot m 0 ≡ with_call (linux_thread t phase.User slot m 0) (resting c)
+    → linux_thread (record t { call = c; phase = next_phase c }) (next_phase c) slot m 0
+    ≡ with_call (linux_thread t phase.User slot m 0) (resting c)
 image_next t c slot m =
     image_in_call (record t { call = c; phase = next_phase c }) (next_phase c) slot m 0 (call_next c)
     ∙ ap (λ (z : LxCall). with_call (linux_thread t phase.User slot m 0) z) (rests_next c)
@@ -133,7 +198,8 @@ fits_inserted c on = by (is_many c) refl
         subst (λ (p : Phase). Fits c p) (sym e) (fits_next c)
 
 -- the call in this phase is the one that it was as it was inserted
-pub rests_inserted : (c : Call) (turn : Turn) → WaitsOn c → linux_call (next_in phase.Sleep c) c 0 ≡ linux_call (phase.Finish turn owed.Insertion) c 0
+pub rests_inserted : (c : Call) (turn : Turn) → WaitsOn c
+    → linux_call (next_in phase.Sleep c) c 0 ≡ linux_call (phase.Finish turn owed.Insertion) c 0
 rests_inserted c turn on = by (is_many c) refl
   where
     by : (b : Bool) → is_many c ≡ b → linux_call (next_in phase.Sleep c) c 0 ≡ linux_call (phase.Finish turn owed.Insertion) c 0

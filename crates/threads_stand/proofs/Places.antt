@@ -62,11 +62,16 @@ all_of p (x ∷ xs) = ap (λ (b : Bool). p x && b) (all_of p xs)
 -- no place is in use exactly where none is counted
 none_counted : {X : Type 0} (xs : List (Option X)) → list_all is_none xs ≡ (count_by is_some xs == 0)
 none_counted [] = refl
-none_counted (None ∷ xs) = none_counted xs ∙ ap (λ (n : ℕ). n == 0) (let e = sum_by-cons (λ o. if is_some o then 1 else 0) None xs in omega arith)
-none_counted (Some x ∷ xs) = let e = sum_by-cons (λ o. if is_some o then 1 else 0) (Some x) xs in let f : (count_by is_some (Some x ∷ xs) == 0) ≡ false = grind (arith, nat_tests) in sym f
+none_counted (None ∷ xs) =
+    none_counted xs ∙ ap (λ (n : ℕ). n == 0) (let e = sum_by-cons (λ o. if is_some o then 1 else 0) None xs in omega arith)
+none_counted (Some x ∷ xs) =
+    let e = sum_by-cons (λ o. if is_some o then 1 else 0) (Some x) xs in
+    let f : (count_by is_some (Some x ∷ xs) == 0) ≡ false = grind (arith, nat_tests) in
+    sym f
 
 -- the first that passes, element by element
-position_next : {X : Type 0} (p : X → Bool) (x : X) (xs : List X) → position p (x ∷ xs) ≡ (if p x then Some 0 else option_map suc (position p xs))
+position_next : {X : Type 0} (p : X → Bool) (x : X) (xs : List X)
+    → position p (x ∷ xs) ≡ (if p x then Some 0 else option_map suc (position p xs))
 position_next p x xs = by (p x)
   where
     n : ℕ
@@ -78,19 +83,26 @@ position_next p x xs = by (p x)
     past true false e = absurd (cc)
     past false true e = absurd (cc)
 
-    by : (b : Bool) → (if nat_lt (if not b then 1 + n else 0) (suc (length xs)) then Some (if not b then 1 + n else 0) else None) ≡ (if b then Some 0 else option_map suc (if nat_lt n (length xs) then Some n else None))
+    by : (b : Bool)
+        → (if nat_lt (if not b then 1 + n else 0) (suc (length xs)) then Some (if not b then 1 + n else 0) else None)
+        ≡ (if b then Some 0 else option_map suc (if nat_lt n (length xs) then Some n else None))
     by true = let e : nat_lt 0 (suc (length xs)) ≡ true = grind (arith, nat_tests) in ap (λ (b : Bool). if b then Some 0 else None) e
     by false = past (nat_lt (1 + n) (suc (length xs))) (nat_lt n (length xs)) (grind (arith, nat_tests))
 
 position_of : {X : Type 0} (p : X → Bool) (xs : List X) → position p xs ≡ position (λ (b : Bool). b) (map p xs)
 position_of p [] = refl
 position_of p (x ∷ xs) =
-    position_next p x xs ∙ ap (λ (o : Option ℕ). if p x then Some 0 else option_map suc o) (position_of p xs) ∙ sym (position_next (λ (b : Bool). b) (p x) (map p xs))
+    position_next p x xs ∙ ap (λ (o : Option ℕ). if p x then Some 0 else option_map suc o) (position_of p xs)
+    ∙ sym (position_next (λ (b : Bool). b) (p x) (map p xs))
 
 free_position : {X : Type 0} (k : ℕ) (xs : List (Option X)) → first_free_from k xs ≡ option_map (λ n. k + n) (position is_none xs)
 free_position k [] = refl
-free_position k (None ∷ xs) = (let e : k ≡ k + 0 = omega arith in ap (λ (n : ℕ). Some n) e) ∙ ap (λ (o : Option ℕ). option_map (λ n. k + n) o) (sym (position_next is_none None xs))
-free_position {X = X} k (Some x ∷ xs) = free_position (suc k) xs ∙ by (position is_none xs) ∙ ap (λ (o : Option ℕ). option_map (λ n. k + n) o) (sym (position_next is_none (Some x) xs))
+free_position k (None ∷ xs) =
+    let e : k ≡ k + 0 = omega arith in
+    ap (λ (n : ℕ). Some n) e ∙ ap (λ (o : Option ℕ). option_map (λ n. k + n) o) (sym (position_next is_none None xs))
+free_position {X = X} k (Some x ∷ xs) =
+    free_position (suc k) xs ∙ by (position is_none xs)
+    ∙ ap (λ (o : Option ℕ). option_map (λ n. k + n) o) (sym (position_next is_none (Some x) xs))
   where
     by : (o : Option ℕ) → option_map (λ n. suc k + n) o ≡ option_map (λ n. k + n) (option_map suc o)
     by None = refl
@@ -122,7 +134,8 @@ in_use_left p s slot less there =
 -- ---- a slot and its place
 
 -- how many real-time signals are pending for it
-queued_in_place : (rules : ℕ) (t : ThreadState) (o : Option Slot) (rest : ℕ) (lt : Option LxThread) → SlotFits rules t o → ThreadStands t o rest lt → queued_signals_at lt ≡ queued_at o
+queued_in_place : (rules : ℕ) (t : ThreadState) (o : Option Slot) (rest : ℕ) (lt : Option LxThread) → SlotFits rules t o
+    → ThreadStands t o rest lt → queued_signals_at lt ≡ queued_at o
 queued_in_place rules t None rest lt fits st = ap queued_signals_at st
 queued_in_place rules t (Some slot) rest lt fits st = by slot.life fits st
   where
@@ -132,32 +145,42 @@ queued_in_place rules t (Some slot) rest lt fits st = by slot.life fits st
     by Dying f g = ap queued_signals_at g.is ∙ real_time_count_image slot.pending
 
 -- whether a live thread with this tid is there
-live_in_place : (rules tid : ℕ) (t : ThreadState) (o : Option Slot) (rest : ℕ) (lt : Option LxThread) → SlotFits rules t o → ThreadStands t o rest lt → is_live_as tid lt ≡ has_live_tid tid o
+live_in_place : (rules tid : ℕ) (t : ThreadState) (o : Option Slot) (rest : ℕ) (lt : Option LxThread) → SlotFits rules t o
+    → ThreadStands t o rest lt → is_live_as tid lt ≡ has_live_tid tid o
 live_in_place rules tid t None rest lt fits st = ap (is_live_as tid) st
 live_in_place rules tid t (Some slot) rest lt fits st = by slot.life refl fits st
   where
     by : (l : Life) → slot.life ≡ l → LifeFits rules t slot l → InUse t slot rest lt l → is_live_as tid lt ≡ has_live_tid tid (Some slot)
     by Reserved e f g = ap (is_live_as tid) g.is ∙ ap (λ (l : Life). has_live_tid tid (Some (record slot { life = l }))) (sym e)
     by Live e f g =
-        ap (is_live_as tid) g.is ∙ ap (λ (l : Life). is_live_as tid (Some (record (linux_thread t t.phase slot g.mark rest) { life = linux_life l }))) e
-        ∙ ap (λ (n : ℕ). has_live_tid tid (Some (record slot { tid = n; life = Live }))) f.tid ∙ ap (λ (l : Life). has_live_tid tid (Some (record slot { life = l }))) (sym e)
+        ap (is_live_as tid) g.is
+        ∙ ap (λ (l : Life). is_live_as tid (Some (record (linux_thread t t.phase slot g.mark rest) { life = linux_life l }))) e
+        ∙ ap (λ (n : ℕ). has_live_tid tid (Some (record slot { tid = n; life = Live }))) f.tid
+        ∙ ap (λ (l : Life). has_live_tid tid (Some (record slot { life = l }))) (sym e)
     by Dying e f g =
-        ap (is_live_as tid) g.is ∙ ap (λ (l : Life). is_live_as tid (Some (record (linux_thread t t.phase slot g.mark rest) { life = linux_life l }))) e
-        ∙ ap (λ (n : ℕ). has_live_tid tid (Some (record slot { tid = n; life = Dying }))) f.started.tid ∙ ap (λ (l : Life). has_live_tid tid (Some (record slot { life = l }))) (sym e)
+        ap (is_live_as tid) g.is
+        ∙ ap (λ (l : Life). is_live_as tid (Some (record (linux_thread t t.phase slot g.mark rest) { life = linux_life l }))) e
+        ∙ ap (λ (n : ℕ). has_live_tid tid (Some (record slot { tid = n; life = Dying }))) f.started.tid
+        ∙ ap (λ (l : Life). has_live_tid tid (Some (record slot { life = l }))) (sym e)
 
 -- whether a live or dying thread with this tid is there
-owner_in_place : (rules tid : ℕ) (t : ThreadState) (o : Option Slot) (rest : ℕ) (lt : Option LxThread) → SlotFits rules t o → ThreadStands t o rest lt → is_owner tid lt ≡ has_started_tid tid o
+owner_in_place : (rules tid : ℕ) (t : ThreadState) (o : Option Slot) (rest : ℕ) (lt : Option LxThread) → SlotFits rules t o
+    → ThreadStands t o rest lt → is_owner tid lt ≡ has_started_tid tid o
 owner_in_place rules tid t None rest lt fits st = ap (is_owner tid) st
 owner_in_place rules tid t (Some slot) rest lt fits st = by slot.life refl fits st
   where
     by : (l : Life) → slot.life ≡ l → LifeFits rules t slot l → InUse t slot rest lt l → is_owner tid lt ≡ has_started_tid tid (Some slot)
     by Reserved e f g = ap (is_owner tid) g.is ∙ ap (λ (l : Life). has_started_tid tid (Some (record slot { life = l }))) (sym e)
     by Live e f g =
-        ap (is_owner tid) g.is ∙ ap (λ (l : Life). is_owner tid (Some (record (linux_thread t t.phase slot g.mark rest) { life = linux_life l }))) e
-        ∙ ap (λ (n : ℕ). has_started_tid tid (Some (record slot { tid = n; life = Live }))) f.tid ∙ ap (λ (l : Life). has_started_tid tid (Some (record slot { life = l }))) (sym e)
+        ap (is_owner tid) g.is
+        ∙ ap (λ (l : Life). is_owner tid (Some (record (linux_thread t t.phase slot g.mark rest) { life = linux_life l }))) e
+        ∙ ap (λ (n : ℕ). has_started_tid tid (Some (record slot { tid = n; life = Live }))) f.tid
+        ∙ ap (λ (l : Life). has_started_tid tid (Some (record slot { life = l }))) (sym e)
     by Dying e f g =
-        ap (is_owner tid) g.is ∙ ap (λ (l : Life). is_owner tid (Some (record (linux_thread t t.phase slot g.mark rest) { life = linux_life l }))) e
-        ∙ ap (λ (n : ℕ). has_started_tid tid (Some (record slot { tid = n; life = Dying }))) f.started.tid ∙ ap (λ (l : Life). has_started_tid tid (Some (record slot { life = l }))) (sym e)
+        ap (is_owner tid) g.is
+        ∙ ap (λ (l : Life). is_owner tid (Some (record (linux_thread t t.phase slot g.mark rest) { life = linux_life l }))) e
+        ∙ ap (λ (n : ℕ). has_started_tid tid (Some (record slot { tid = n; life = Dying }))) f.started.tid
+        ∙ ap (λ (l : Life). has_started_tid tid (Some (record slot { life = l }))) (sym e)
 
 -- whether it is free
 free_in_place : (t : ThreadState) (o : Option Slot) (rest : ℕ) (lt : Option LxThread) → ThreadStands t o rest lt → is_none lt ≡ is_none o
@@ -178,7 +201,9 @@ module _ (threads : ℕ → Option ThreadState) (p : ProcessState) (rest : ℕ �
   within : (s : ℕ) → s < length L.threads → s < SLOTS
   within s less = let e = st.places in omega arith
 
-  agree : {C : Type 0} (f : Option LxThread → C) (g : Option Slot → C) → ((t : ThreadState) (o : Option Slot) (n : ℕ) (lt : Option LxThread) → SlotFits p.rules t o → ThreadStands t o n lt → f lt ≡ g o) → map f L.threads ≡ map g p.slots
+  agree : {C : Type 0} (f : Option LxThread → C) (g : Option Slot → C)
+      → ((t : ThreadState) (o : Option Slot) (n : ℕ) (lt : Option LxThread) → SlotFits p.rules t o → ThreadStands t o n lt → f lt ≡ g o)
+      → map f L.threads ≡ map g p.slots
   agree f g same =
       mapped f g L.threads p.slots long (λ s less.
       let t = ok.there s (within s less) in same t.0 (slot_at p s) (rest s) (at_place L.threads s) (ok.lives s t.0 t.1) (st.each s t.0 t.1))
@@ -187,19 +212,27 @@ module _ (threads : ℕ → Option ThreadState) (p : ProcessState) (rest : ℕ �
   pub queued_image : ProcessStands p L → queued_signals L.threads L.pending ≡ queued p
   queued_image ps =
       let own : sum_by queued_signals_at L.threads ≡ sum_by queued_at p.slots =
-      sum_from queued_signals_at L.threads 0 ∙ ap (λ (l : List ℕ). fold (λ (a b : ℕ). a + b) 0 l) (agree queued_signals_at queued_at (queued_in_place p.rules)) ∙ sym (sum_from queued_at p.slots 0) in
-      ap (λ (n : ℕ). n + lx.real_time_count L.pending) own ∙ ap (λ (l : List SigInfo). sum_by queued_at p.slots + lx.real_time_count l) ps.pending ∙ ap (λ (n : ℕ). sum_by queued_at p.slots + n) (real_time_count_image p.pending)
+      sum_from queued_signals_at L.threads 0
+      ∙ ap (λ (l : List ℕ). fold (λ (a b : ℕ). a + b) 0 l) (agree queued_signals_at queued_at (queued_in_place p.rules))
+      ∙ sym (sum_from queued_at p.slots 0) in
+      ap (λ (n : ℕ). n + lx.real_time_count L.pending) own
+      ∙ ap (λ (l : List SigInfo). sum_by queued_at p.slots + lx.real_time_count l) ps.pending
+      ∙ ap (λ (n : ℕ). sum_by queued_at p.slots + n) (real_time_count_image p.pending)
 
   -- the slot of the live thread with a tid
   pub live_slot_image : (tid : ℕ) → live_slot tid L.threads ≡ position (has_live_tid tid) p.slots
   unfolding live_slot
   live_slot_image tid =
-      position_of (is_live_as tid) L.threads ∙ ap (λ (l : List Bool). position (λ (b : Bool). b) l) (agree (is_live_as tid) (has_live_tid tid) (live_in_place p.rules tid)) ∙ sym (position_of (has_live_tid tid) p.slots)
+      position_of (is_live_as tid) L.threads
+      ∙ ap (λ (l : List Bool). position (λ (b : Bool). b) l) (agree (is_live_as tid) (has_live_tid tid) (live_in_place p.rules tid))
+      ∙ sym (position_of (has_live_tid tid) p.slots)
 
   -- whether a lock's owner lives or dies
   pub has_owner_image : (tid : ℕ) → has_owner L.threads tid ≡ list_any (has_started_tid tid) p.slots
   has_owner_image tid =
-      any_of (is_owner tid) L.threads ∙ ap (λ (l : List Bool). list_any (λ (b : Bool). b) l) (agree (is_owner tid) (has_started_tid tid) (owner_in_place p.rules tid)) ∙ sym (any_of (has_started_tid tid) p.slots)
+      any_of (is_owner tid) L.threads
+      ∙ ap (λ (l : List Bool). list_any (λ (b : Bool). b) l) (agree (is_owner tid) (has_started_tid tid) (owner_in_place p.rules tid))
+      ∙ sym (any_of (has_started_tid tid) p.slots)
 
   -- the slot that a clone reserves
   pub place_for_image : ProcessStands p L → place_for L.rules L.threads L.next_tid ≡ slot_for p
@@ -211,10 +244,15 @@ module _ (threads : ℕ → Option ThreadState) (p : ProcessState) (rest : ℕ �
       n = slot_limit p.rules
 
       free : map is_none (take n L.threads) ≡ map is_none (take n p.slots)
-      free = take_mapped is_none n L.threads ∙ ap (λ (l : List Bool). take n l) (agree (λ (lt : Option LxThread). is_none lt) (λ (o : Option Slot). is_none o) (λ t o k lt f g. free_in_place t o k lt g)) ∙ sym (take_mapped is_none n p.slots)
+      free =
+          take_mapped is_none n L.threads
+          ∙ ap (λ (l : List Bool). take n l)
+          (agree (λ (lt : Option LxThread). is_none lt) (λ (o : Option Slot). is_none o) (λ t o k lt f g. free_in_place t o k lt g)) ∙ sym (take_mapped is_none n p.slots)
 
       first : first_free (take n L.threads) ≡ position is_none (take n p.slots)
-      first = first_free_is (take n L.threads) ∙ position_of is_none (take n L.threads) ∙ ap (λ (l : List Bool). position (λ (b : Bool). b) l) free ∙ sym (position_of is_none (take n p.slots))
+      first =
+          first_free_is (take n L.threads) ∙ position_of is_none (take n L.threads)
+          ∙ ap (λ (l : List Bool). position (λ (b : Bool). b) l) free ∙ sym (position_of is_none (take n p.slots))
 
   -- whether the thread of slot s is the only one
   pub alone_image : (s : ℕ) → has_no_thread (slice_set L.threads s None) ≡ (in_use (left p s) == 0)
@@ -222,6 +260,7 @@ module _ (threads : ℕ → Option ThreadState) (p : ProcessState) (rest : ℕ �
       all_of is_none (slice_set L.threads s None)
       ∙ ap (λ (l : List Bool). list_all (λ (b : Bool). b) l)
       (sym (set_mapped is_none L.threads s None)
-      ∙ ap (λ (l : List Bool). slice_set l s true) (agree (λ (lt : Option LxThread). is_none lt) (λ (o : Option Slot). is_none o) (λ t o k lt f g. free_in_place t o k lt g))
+      ∙ ap (λ (l : List Bool). slice_set l s true)
+      (agree (λ (lt : Option LxThread). is_none lt) (λ (o : Option Slot). is_none o) (λ t o k lt f g. free_in_place t o k lt g))
       ∙ set_mapped is_none p.slots s None)
       ∙ sym (all_of is_none (slice_set p.slots s None)) ∙ none_counted (slice_set p.slots s None)

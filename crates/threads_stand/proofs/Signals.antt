@@ -46,11 +46,13 @@ below_next a b = grind (arith, nat_tests)
 
 same_image : (s t : BsdSig) → (signal_number (signal_out_of s) == signal_number (signal_out_of t)) ≡ (place_of s == place_of t)
 same_image s t =
-    ap (λ (n : ℕ). n == signal_number (signal_out_of t)) (number_image s) ∙ ap (λ (n : ℕ). place_of s + 1 == n) (number_image t) ∙ same_next (place_of s) (place_of t)
+    ap (λ (n : ℕ). n == signal_number (signal_out_of t)) (number_image s) ∙ ap (λ (n : ℕ). place_of s + 1 == n) (number_image t)
+    ∙ same_next (place_of s) (place_of t)
 
 below_image : (s t : BsdSig) → nat_lt (signal_number (signal_out_of s)) (signal_number (signal_out_of t)) ≡ nat_lt (place_of s) (place_of t)
 below_image s t =
-    ap (λ (n : ℕ). nat_lt n (signal_number (signal_out_of t))) (number_image s) ∙ ap (λ (n : ℕ). nat_lt (place_of s + 1) n) (number_image t) ∙ below_next (place_of s) (place_of t)
+    ap (λ (n : ℕ). nat_lt n (signal_number (signal_out_of t))) (number_image s) ∙ ap (λ (n : ℕ). nat_lt (place_of s + 1) n) (number_image t)
+    ∙ below_next (place_of s) (place_of t)
 
 pub is_of_image : (sig : BsdSig) (x : Signal) → lx.is_of (signal_out_of sig) (linux_info x) ≡ bsd.is_of sig x
 is_of_image sig x = same_image x.sig sig
@@ -69,7 +71,8 @@ agree_is false false h = refl
 
 -- whether its default action drops it
 pub dropped_image : (s : BsdSig) → linux_sig.is_dropped_by_default (signal_out_of s) ≡ bsd_sig.is_dropped_by_default s
-dropped_image s = agree_is _ _ (each_signal (λ t. agree (linux_sig.is_dropped_by_default (signal_out_of t)) (bsd_sig.is_dropped_by_default t)) refl s)
+dropped_image s =
+    agree_is _ _ (each_signal (λ t. agree (linux_sig.is_dropped_by_default (signal_out_of t)) (bsd_sig.is_dropped_by_default t)) refl s)
 
 -- whether a set has it
 pub has_signal_image : (set : ℕ) (s : BsdSig) → lx.has_signal (set_out_of set) (signal_out_of s) ≡ bsd.has_signal set s
@@ -77,28 +80,36 @@ has_signal_image set s = ap (λ (b : ℕ). b == 1) (bit_at-set_out set s)
 
 -- ---- what is in a list
 
-pub there_image : (sig : BsdSig) (xs : List Signal) → list_any (lx.is_of (signal_out_of sig)) (map linux_info xs) ≡ list_any (bsd.is_of sig) xs
+pub there_image : (sig : BsdSig) (xs : List Signal)
+    → list_any (lx.is_of (signal_out_of sig)) (map linux_info xs) ≡ list_any (bsd.is_of sig) xs
 there_image sig xs = any_mapped linux_info (lx.is_of (signal_out_of sig)) (bsd.is_of sig) (is_of_image sig) xs
 
 -- the first of its kind
-pub first_image : (sig : BsdSig) (xs : List Signal) → lx.first_info (signal_out_of sig) (map linux_info xs) ≡ option_map linux_info (bsd.first_of sig xs)
+pub first_image : (sig : BsdSig) (xs : List Signal)
+    → lx.first_info (signal_out_of sig) (map linux_info xs) ≡ option_map linux_info (bsd.first_of sig xs)
 first_image sig xs = find_mapped linux_info (lx.is_of (signal_out_of sig)) (bsd.is_of sig) (is_of_image sig) xs
 
 -- the list without it
-pub without_image : (sig : BsdSig) (xs : List Signal) → lx.without_signal (signal_out_of sig) (map linux_info xs) ≡ map linux_info (bsd.without sig xs)
+pub without_image : (sig : BsdSig) (xs : List Signal)
+    → lx.without_signal (signal_out_of sig) (map linux_info xs) ≡ map linux_info (bsd.without sig xs)
 without_image sig [] = refl
-without_image sig (x ∷ xs) = cut_first (lx.is_of (signal_out_of sig)) (linux_info x) (map linux_info xs) ∙ by (lx.is_of (signal_out_of sig) (linux_info x)) (bsd.is_of sig x) (is_of_image sig x) (without_image sig xs)
+without_image sig (x ∷ xs) =
+    cut_first (lx.is_of (signal_out_of sig)) (linux_info x) (map linux_info xs)
+    ∙ by (lx.is_of (signal_out_of sig) (linux_info x)) (bsd.is_of sig x) (is_of_image sig x) (without_image sig xs)
   where
     by : (b c : Bool) → b ≡ c → lx.without_signal (signal_out_of sig) (map linux_info xs) ≡ map linux_info (bsd.without sig xs)
-        → (if b then map linux_info xs else (linux_info x ∷ lx.without_signal (signal_out_of sig) (map linux_info xs))) ≡ map linux_info (if c then xs else (x ∷ bsd.without sig xs))
+        → (if b then map linux_info xs else (linux_info x ∷ lx.without_signal (signal_out_of sig) (map linux_info xs)))
+        ≡ map linux_info (if c then xs else (x ∷ bsd.without sig xs))
     by true true h next = refl
     by false false h next = ap (λ (l : List SigInfo). linux_info x ∷ l) next
     by true false h next = absurd (cc)
     by false true h next = absurd (cc)
 
 -- and without any of its kind
-pub without_all_image : (sig : BsdSig) (xs : List Signal) → lx.without_all (signal_out_of sig) (map linux_info xs) ≡ map linux_info (bsd.without_all sig xs)
-without_all_image sig xs = filter_mapped linux_info (λ info. not (lx.is_of (signal_out_of sig) info)) (λ x. not (bsd.is_of sig x)) (λ x. ap not (is_of_image sig x)) xs
+pub without_all_image : (sig : BsdSig) (xs : List Signal)
+    → lx.without_all (signal_out_of sig) (map linux_info xs) ≡ map linux_info (bsd.without_all sig xs)
+without_all_image sig xs =
+    filter_mapped linux_info (λ info. not (lx.is_of (signal_out_of sig) info)) (λ x. not (bsd.is_of sig x)) (λ x. ap not (is_of_image sig x)) xs
 
 pub real_time_count_image : (xs : List Signal) → lx.real_time_count (map linux_info xs) ≡ bsd.real_time_count xs
 real_time_count_image xs =
@@ -127,40 +138,51 @@ pub has_unblocked_image : (mask : ℕ) (xs : List Signal) → lx.has_unblocked (
 has_unblocked_image mask xs =
     any_mapped linux_info (λ info. not (lx.has_signal (set_out_of mask) info.signal)) (λ x. not (bsd.has_signal mask x.sig)) (λ x. ap not (has_signal_image mask x.sig)) xs
 
-before_here : (mask : ℕ) (sig : BsdSig) (x : Signal) → lx.is_before (set_out_of mask) (signal_out_of sig) (linux_info x) ≡ is_before mask sig x
+before_here : (mask : ℕ) (sig : BsdSig) (x : Signal)
+    → lx.is_before (set_out_of mask) (signal_out_of sig) (linux_info x) ≡ is_before mask sig x
 before_here mask sig x =
     ap (λ (b : Bool). b && nat_lt (signal_number (signal_out_of x.sig)) (signal_number (signal_out_of sig)) && not (lx.has_signal (set_out_of mask) (signal_out_of x.sig))) (real_time_image x.sig)
-    ∙ ap (λ (b : Bool). bsd_sig.is_real_time x.sig && b && not (lx.has_signal (set_out_of mask) (signal_out_of x.sig))) (below_image x.sig sig)
+    ∙ ap (λ (b : Bool). bsd_sig.is_real_time x.sig && b && not (lx.has_signal (set_out_of mask) (signal_out_of x.sig)))
+    (below_image x.sig sig)
     ∙ ap (λ (b : Bool). bsd_sig.is_real_time x.sig && nat_lt (place_of x.sig) (place_of sig) && not b) (has_signal_image mask x.sig)
 
-before_image : (mask : ℕ) (sig : BsdSig) (xs : List Signal) → list_any (lx.is_before (set_out_of mask) (signal_out_of sig)) (map linux_info xs) ≡ list_any (is_before mask sig) xs
-before_image mask sig xs = any_mapped linux_info (lx.is_before (set_out_of mask) (signal_out_of sig)) (is_before mask sig) (before_here mask sig) xs
+before_image : (mask : ℕ) (sig : BsdSig) (xs : List Signal)
+    → list_any (lx.is_before (set_out_of mask) (signal_out_of sig)) (map linux_info xs) ≡ list_any (is_before mask sig) xs
+before_image mask sig xs =
+    any_mapped linux_info (lx.is_before (set_out_of mask) (signal_out_of sig)) (is_before mask sig) (before_here mask sig) xs
 
-pub may_take_image : (mask : ℕ) (xs : List Signal) (sig : BsdSig) → lx.may_take (set_out_of mask) (map linux_info xs) (signal_out_of sig) ≡ may_take mask xs sig
+pub may_take_image : (mask : ℕ) (xs : List Signal) (sig : BsdSig)
+    → lx.may_take (set_out_of mask) (map linux_info xs) (signal_out_of sig) ≡ may_take mask xs sig
 may_take_image mask xs sig =
     ap (λ (b : Bool). b && not (lx.has_signal (set_out_of mask) (signal_out_of sig)) && not (linux_sig.is_real_time (signal_out_of sig) && list_any (lx.is_before (set_out_of mask) (signal_out_of sig)) (map linux_info xs))) (there_image sig xs)
     ∙ ap (λ (b : Bool). list_any (bsd.is_of sig) xs && not b && not (linux_sig.is_real_time (signal_out_of sig) && list_any (lx.is_before (set_out_of mask) (signal_out_of sig)) (map linux_info xs))) (has_signal_image mask sig)
     ∙ ap (λ (b : Bool). list_any (bsd.is_of sig) xs && not (bsd.has_signal mask sig) && not (b && list_any (lx.is_before (set_out_of mask) (signal_out_of sig)) (map linux_info xs))) (real_time_image sig)
-    ∙ ap (λ (b : Bool). list_any (bsd.is_of sig) xs && not (bsd.has_signal mask sig) && not (bsd_sig.is_real_time sig && b)) (before_image mask sig xs)
+    ∙ ap (λ (b : Bool). list_any (bsd.is_of sig) xs && not (bsd.has_signal mask sig) && not (bsd_sig.is_real_time sig && b))
+    (before_image mask sig xs)
 
 -- what is found where it may be taken
-pub found_image : (mask : ℕ) (xs : List Signal) (sig : BsdSig) → may_take mask xs sig ≡ true → lx.found_in (set_out_of mask) (map linux_info xs) (signal_out_of sig) ≡ option_map linux_info (bsd.first_of sig xs)
+pub found_image : (mask : ℕ) (xs : List Signal) (sig : BsdSig) → may_take mask xs sig ≡ true
+    → lx.found_in (set_out_of mask) (map linux_info xs) (signal_out_of sig) ≡ option_map linux_info (bsd.first_of sig xs)
 found_image mask xs sig may =
-    ap (λ (b : Bool). if b then lx.first_info (signal_out_of sig) (map linux_info xs) else None) (may_take_image mask xs sig ∙ may) ∙ first_image sig xs
+    ap (λ (b : Bool). if b then lx.first_info (signal_out_of sig) (map linux_info xs) else None) (may_take_image mask xs sig ∙ may)
+    ∙ first_image sig xs
 
 -- the first of a kind is of this kind
 pub first_kind : (sig : BsdSig) (xs : List Signal) (x : Signal) → bsd.first_of sig xs ≡ Some x → x.sig ≡ sig
 first_kind sig [] x e = absurd (cc)
 first_kind sig (y ∷ xs) x e = by (bsd.is_of sig y) refl e (first_kind sig xs x)
   where
-    by : (b : Bool) → bsd.is_of sig y ≡ b → (if b then Some y else bsd.first_of sig xs) ≡ Some x → (bsd.first_of sig xs ≡ Some x → x.sig ≡ sig) → x.sig ≡ sig
-    by true f g next = let h : y ≡ x = cc in ap (λ (z : Signal). z.sig) (sym h) ∙ same_place y.sig sig (eqb-true (place_of y.sig) (place_of sig) f)
+    by : (b : Bool) → bsd.is_of sig y ≡ b → (if b then Some y else bsd.first_of sig xs) ≡ Some x
+        → (bsd.first_of sig xs ≡ Some x → x.sig ≡ sig) → x.sig ≡ sig
+    by true f g next =
+        let h : y ≡ x = cc in ap (λ (z : Signal). z.sig) (sym h) ∙ same_place y.sig sig (eqb-true (place_of y.sig) (place_of sig) f)
     by false f g next = next g
 
 -- ---- the choice
 
 -- the list of a target
-pub listed_image : (p : ProcessState) (s : ℕ) (c : Target) → (c ≡ One s) ⊎ (c ≡ All) → lx.listed (map linux_info (own_pending p s)) (map linux_info p.pending) (linux_list c) ≡ map linux_info (pending_for p c)
+pub listed_image : (p : ProcessState) (s : ℕ) (c : Target) → (c ≡ One s) ⊎ (c ≡ All)
+    → lx.listed (map linux_info (own_pending p s)) (map linux_info p.pending) (linux_list c) ≡ map linux_info (pending_for p c)
 listed_image p s c (inl e) =
     subst (λ (z : Target). lx.listed (map linux_info (own_pending p s)) (map linux_info p.pending) (linux_list z) ≡ map linux_info (pending_for p z)) (sym e) refl
 listed_image p s c (inr e) =
@@ -179,7 +201,8 @@ some_of : {X : Type 0} (o : Option X) → is_some o ≡ true → (x : X) × (o �
 some_of (Some x) e = (x, refl)
 some_of None e = absurd (cc)
 
-chosen_in : (p : ProcessState) (s mask : ℕ) (target : Target) (sig : BsdSig) → (target ≡ One s) ⊎ (target ≡ All) → may_take mask (pending_for p target) sig ≡ true → Chosen p s mask target sig
+chosen_in : (p : ProcessState) (s mask : ℕ) (target : Target) (sig : BsdSig) → (target ≡ One s) ⊎ (target ≡ All)
+    → may_take mask (pending_for p target) sig ≡ true → Chosen p s mask target sig
 chosen_in p s mask target sig whose may =
     let x = some_of (bsd.first_of sig (pending_for p target)) (taken-there mask (pending_for p target) sig may) in
     record {
@@ -191,28 +214,34 @@ chosen_in p s mask target sig whose may =
       found = found_image mask (pending_for p target) sig may ∙ ap (λ (o : Option Signal). option_map linux_info o) x.1;
     }
 
-pub chosen_image : (p : ProcessState) (s mask : ℕ) (target : Target) (sig : BsdSig) → choice p s mask ≡ Some (target, sig) → Chosen p s mask target sig
+pub chosen_image : (p : ProcessState) (s mask : ℕ) (target : Target) (sig : BsdSig) → choice p s mask ≡ Some (target, sig)
+    → Chosen p s mask target sig
 chosen_image p s mask target sig e = by (first_ready mask (own_pending p s)) (first_ready mask p.pending) refl refl e
   where
-    by : (o q : Option BsdSig) → first_ready mask (own_pending p s) ≡ o → first_ready mask p.pending ≡ q → chosen s o q ≡ Some (target, sig) → Chosen p s mask target sig
+    by : (o q : Option BsdSig) → first_ready mask (own_pending p s) ≡ o → first_ready mask p.pending ≡ q → chosen s o q ≡ Some (target, sig)
+        → Chosen p s mask target sig
     by (Some own) q f g h =
         let a : (One s, own) ≡ (target, sig) = cc in
-        subst (λ (z : Target × BsdSig). Chosen p s mask z.0 z.1) a (chosen_in p s mask (One s) own (inl refl) (may_take-first mask (own_pending p s) own f))
+        subst (λ (z : Target × BsdSig). Chosen p s mask z.0 z.1) a
+        (chosen_in p s mask (One s) own (inl refl) (may_take-first mask (own_pending p s) own f))
     by None (Some shared) f g h =
         let a : (All, shared) ≡ (target, sig) = cc in
-        subst (λ (z : Target × BsdSig). Chosen p s mask z.0 z.1) a (chosen_in p s mask All shared (inr refl) (may_take-first mask p.pending shared g))
+        subst (λ (z : Target × BsdSig). Chosen p s mask z.0 z.1) a
+        (chosen_in p s mask All shared (inr refl) (may_take-first mask p.pending shared g))
     by None None f g h = absurd (cc)
 
 -- where nothing is chosen, nothing may be taken
 pub unchosen_image : (p : ProcessState) (s mask : ℕ) → choice p s mask ≡ None
-    → (lx.has_unblocked (set_out_of mask) (map linux_info (own_pending p s)) ≡ false) × (lx.has_unblocked (set_out_of mask) (map linux_info p.pending) ≡ false)
+    → (lx.has_unblocked (set_out_of mask) (map linux_info (own_pending p s)) ≡ false)
+    × (lx.has_unblocked (set_out_of mask) (map linux_info p.pending) ≡ false)
 unchosen_image p s mask e = by (first_ready mask (own_pending p s)) (first_ready mask p.pending) refl refl e
   where
     none : (xs : List Signal) → first_ready mask xs ≡ None → lx.has_unblocked (set_out_of mask) (map linux_info xs) ≡ false
     none xs f = has_unblocked_image mask xs ∙ sym (some-unblocked mask xs) ∙ ap (λ (o : Option BsdSig). is_some o) f
 
     by : (o q : Option BsdSig) → first_ready mask (own_pending p s) ≡ o → first_ready mask p.pending ≡ q → chosen s o q ≡ None
-        → (lx.has_unblocked (set_out_of mask) (map linux_info (own_pending p s)) ≡ false) × (lx.has_unblocked (set_out_of mask) (map linux_info p.pending) ≡ false)
+        → (lx.has_unblocked (set_out_of mask) (map linux_info (own_pending p s)) ≡ false)
+        × (lx.has_unblocked (set_out_of mask) (map linux_info p.pending) ≡ false)
     by None None f g h = (none (own_pending p s) f, none p.pending g)
     by (Some own) q f g h = absurd (cc)
     by None (Some shared) f g h = absurd (cc)

@@ -155,4 +155,5 @@ dies_at rules t d =
 
 -- so its next phase is one of six: no Return, no Start, no clock, no hold
 pub dies_next : (rules : ℕ) (t : ThreadState) (d : Dies rules t) → next_phase t.call ≡ death_phase d.death.place
-dies_next rules t d = ap (λ (st : Stage). phase_of (resting t.call) st) (dies_at rules t d) ∙ at_place (resting t.call) d.death d.death.place d.walks
+dies_next rules t d =
+    ap (λ (st : Stage). phase_of (resting t.call) st) (dies_at rules t d) ∙ at_place (resting t.call) d.death d.death.place d.walks

@@ -76,7 +76,8 @@ pub with_regs_image : (t : ThreadState) (p : Phase) (slot : Slot) (m : Option �
 with_regs_image t p slot m rest regs = refl
 
 pub out_of_call_image : (t : ThreadState) (p : Phase) (slot : Slot) (m : Option ℕ) (rest : ℕ) (regs : Regs) → has_call p ≡ true
-    → linux_thread (record t { regs = regs; phase = phase.User }) phase.User slot m 0 ≡ lx_delivery.out_of_call (linux_thread t p slot m rest) regs
+    → linux_thread (record t { regs = regs; phase = phase.User }) phase.User slot m 0
+    ≡ lx_delivery.out_of_call (linux_thread t p slot m rest) regs
 out_of_call_image t p slot m rest regs h = sym (ap (λ (z : LxThread). lx_delivery.out_of_call z regs) (image_in_call t p slot m rest h))
 
 -- ---- masks
@@ -85,17 +86,21 @@ out_of_call_image t p slot m rest regs h = sym (ap (λ (z : LxThread). lx_delive
 pub masked_image : (t : ThreadState) (p : Phase) (slot : Slot) (m : Option ℕ) (rest : ℕ) (o : Option ℕ) → IfSome o (λ set. set < 2 ^ 64)
     → linux_thread (masked (option_map set_in_of o) t) p slot m rest ≡ lx_step.masked o (linux_thread t p slot m rest)
 masked_image t p slot m rest None small = refl
-masked_image t p slot m rest (Some set) small = ap (λ (z : ℕ). lx_step.masked (Some z) (linux_thread t p slot m rest)) (set_out-in set small)
+masked_image t p slot m rest (Some set) small =
+    ap (λ (z : ℕ). lx_step.masked (Some z) (linux_thread t p slot m rest)) (set_out-in set small)
 
-own_image : (mask : ℕ) (saved : Option ℕ) → set_out_of (own_mask mask saved) ≡ lx_delivery.own_mask (set_out_of mask) (option_map set_out_of saved)
+own_image : (mask : ℕ) (saved : Option ℕ)
+    → set_out_of (own_mask mask saved) ≡ lx_delivery.own_mask (set_out_of mask) (option_map set_out_of saved)
 own_image mask None = refl
 own_image mask (Some saved) = refl
 
 -- the mask that a thread has outside its call
-pub own_mask_image : (t : ThreadState) → set_out_of (own_mask t.mask t.saved_mask) ≡ lx_delivery.own_mask (set_out_of t.mask) (option_map set_out_of t.saved_mask)
+pub own_mask_image : (t : ThreadState)
+    → set_out_of (own_mask t.mask t.saved_mask) ≡ lx_delivery.own_mask (set_out_of t.mask) (option_map set_out_of t.saved_mask)
 own_mask_image t = own_image t.mask t.saved_mask
 
-pub unmasked_image : (t : ThreadState) (p : Phase) (slot : Slot) (m : Option ℕ) (rest : ℕ) → linux_thread (unmasked t) p slot m rest ≡ lx_delivery.unmasked (linux_thread t p slot m rest)
+pub unmasked_image : (t : ThreadState) (p : Phase) (slot : Slot) (m : Option ℕ) (rest : ℕ)
+    → linux_thread (unmasked t) p slot m rest ≡ lx_delivery.unmasked (linux_thread t p slot m rest)
 unmasked_image t p slot m rest = ap (λ (z : ℕ). record (linux_thread t p slot m rest) { mask = z; saved_mask = None }) (own_mask_image t)
 
 -- ---- a child that starts
@@ -109,9 +114,11 @@ started_image t tid mask reserved_mask regs lc = refl
 
 -- a handler is to run
 pub handled_image : (t : ThreadState) (slot : Slot) (m : Option ℕ) (d : Delivery)
-    → linux_thread (record t { phase = phase.Frame d; granule = None }) (phase.Frame d) slot None 0 ≡ lx_delivery.handled (linux_thread t phase.User slot m 0) (linux_info d.signal) (linux_action d.action)
+    → linux_thread (record t { phase = phase.Frame d; granule = None }) (phase.Frame d) slot None 0
+    ≡ lx_delivery.handled (linux_thread t phase.User slot m 0) (linux_info d.signal) (linux_action d.action)
 handled_image t slot m d = refl
 
 -- its frame can't be stored
-pub doomed_image : (t : ThreadState) (slot : Slot) (m : Option ℕ) (d : Delivery) → linux_thread t (phase.Kill doom.Frame) slot m 0 ≡ doomed (linux_thread t (phase.Frame d) slot m 0)
+pub doomed_image : (t : ThreadState) (slot : Slot) (m : Option ℕ) (d : Delivery)
+    → linux_thread t (phase.Kill doom.Frame) slot m 0 ≡ doomed (linux_thread t (phase.Frame d) slot m 0)
 doomed_image t slot m d = refl

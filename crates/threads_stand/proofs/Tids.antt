@@ -17,7 +17,8 @@ use Rattle.threads_stand.proofs.Mapped.{filter_mapped}
 -- ---- a slot's tid
 
 -- that of a slot in use is no other slot's
-pub tid_apart : (p : ProcessState) (s : ℕ) (slot : Slot) → TidsDiffer p → slot_at p s ≡ Some slot → (x : ℕ) → x ≢ s → tid_of p x ≢ tid_of p s
+pub tid_apart : (p : ProcessState) (s : ℕ) (slot : Slot) → TidsDiffer p → slot_at p s ≡ Some slot → (x : ℕ) → x ≢ s
+    → tid_of p x ≢ tid_of p s
 tid_apart p s slot d there x ne e = by (slot_at p x) refl
   where
     here : tid_of p s ≡ slot.tid
@@ -52,7 +53,8 @@ module _ (tids : ℕ → ℕ) (s : ℕ) (apart : (x : ℕ) → x ≢ s → tids 
     without_is ws = filter_mapped f (λ v. not (is_thread (tids s) v)) (λ w. not (is_of_slot s w)) (λ w. ap not (same_waiter w)) ws
 
     -- a place of its wait
-    pub place_queued_is : ((w : Waiter) → (f w).place ≡ w.place) → (place : ℕ) (ws : List Waiter) → is_place_queued (tids s) place (map f ws) ≡ list_any (λ w. is_of_slot s w && (w.place == place)) ws
+    pub place_queued_is : ((w : Waiter) → (f w).place ≡ w.place) → (place : ℕ) (ws : List Waiter)
+        → is_place_queued (tids s) place (map f ws) ≡ list_any (λ w. is_of_slot s w && (w.place == place)) ws
     place_queued_is same place ws =
         any_mapped f (is_place (tids s) place) (λ w. is_of_slot s w && (w.place == place))
         (λ w. ap (λ (b : Bool). b && ((f w).place == place)) (same_waiter w) ∙ ap (λ (n : ℕ). is_of_slot s w && (n == place)) (same w)) ws
@@ -68,7 +70,8 @@ neither : (a b : Bool) → (a || b) ≡ false → (a ≡ false) × (b ≡ false)
 neither false b h = (refl, h)
 neither true b h = absurd (cc)
 
-pub nowhere_queued : (tid : ℕ) (ws : List LxWaiter) → ((a : ℕ) → is_queued tid (filter (at_address a) ws) ≡ false) → is_queued tid ws ≡ false
+pub nowhere_queued : (tid : ℕ) (ws : List LxWaiter) → ((a : ℕ) → is_queued tid (filter (at_address a) ws) ≡ false)
+    → is_queued tid ws ≡ false
 nowhere_queued tid [] none = refl
 nowhere_queued tid (w ∷ ws) none = both (is_thread tid w) (is_queued tid ws) here (nowhere_queued tid ws later)
   where
@@ -77,14 +80,17 @@ nowhere_queued tid (w ∷ ws) none = both (is_thread tid w) (is_queued tid ws) h
     both true b e f = absurd (cc)
     both false true e f = absurd (cc)
 
-    kept : (b : Bool) → b ≡ true → is_queued tid (if b then (w ∷ filter (at_address w.address) ws) else filter (at_address w.address) ws) ≡ false → is_thread tid w ≡ false
+    kept : (b : Bool) → b ≡ true
+        → is_queued tid (if b then (w ∷ filter (at_address w.address) ws) else filter (at_address w.address) ws) ≡ false
+        → is_thread tid w ≡ false
     kept true e f = (neither (is_thread tid w) (is_queued tid (filter (at_address w.address) ws)) f).0
     kept false e f = absurd (cc)
 
     here : is_thread tid w ≡ false
     here = kept (at_address w.address w) (address_self w.address) (none w.address)
 
-    passed : (a : ℕ) (b : Bool) → is_queued tid (if b then (w ∷ filter (at_address a) ws) else filter (at_address a) ws) ≡ false → is_queued tid (filter (at_address a) ws) ≡ false
+    passed : (a : ℕ) (b : Bool) → is_queued tid (if b then (w ∷ filter (at_address a) ws) else filter (at_address a) ws) ≡ false
+        → is_queued tid (filter (at_address a) ws) ≡ false
     passed a true e = (neither (is_thread tid w) (is_queued tid (filter (at_address a) ws)) e).1
     passed a false e = e
 
@@ -94,7 +100,8 @@ nowhere_queued tid (w ∷ ws) none = both (is_thread tid w) (is_queued tid ws) h
 -- ---- tids differ however slots change
 
 -- where no slot gets another tid
-pub tids_kept : (p q : ProcessState) → TidsDiffer p → q.next_tid ≡ p.next_tid → ((s : ℕ) (slot : Slot) → slot_at q s ≡ Some slot → (old : Slot) × (slot_at p s ≡ Some old) × (old.tid ≡ slot.tid)) → TidsDiffer q
+pub tids_kept : (p q : ProcessState) → TidsDiffer p → q.next_tid ≡ p.next_tid
+    → ((s : ℕ) (slot : Slot) → slot_at q s ≡ Some slot → (old : Slot) × (slot_at p s ≡ Some old) × (old.tid ≡ slot.tid)) → TidsDiffer q
 tids_kept p q d same was = record {
   next = (let a = d.next in omega arith);
   above = λ s slot there. (let w = was s slot there in let a = d.above s w.0 w.1 in let e = w.2 in omega arith);
@@ -104,7 +111,8 @@ tids_kept p q d same was = record {
 }
 
 -- a place of a list of places, after a write
-written_at : {X : Type 0} (xs : List (Option X)) (s x : ℕ) (v : Option X) (w : X) → slice_index_or (slice_set xs s v) x None ≡ Some w → ((x ≡ s) × (v ≡ Some w)) ⊎ ((x ≢ s) × (slice_index_or xs x None ≡ Some w))
+written_at : {X : Type 0} (xs : List (Option X)) (s x : ℕ) (v : Option X) (w : X) → slice_index_or (slice_set xs s v) x None ≡ Some w
+    → ((x ≡ s) × (v ≡ Some w)) ⊎ ((x ≢ s) × (slice_index_or xs x None ≡ Some w))
 written_at [] s x v w e = absurd (cc)
 written_at (y ∷ xs) zero zero v w e = inl (refl, e)
 written_at (y ∷ xs) zero (suc x) v w e = inr ((λ f. (cc)), e)
@@ -148,7 +156,8 @@ tids_reserved p s d = record {
     at_differ x y slot other ne (inr old) (inr also) e = d.differ x y slot other ne old.1 also.1 e
 
 -- at boot
-pub tids_started : (p : ProcessState) (slot : Slot) (rest : List (Option Slot)) → p.slots ≡ Some slot ∷ rest → ((s : ℕ) → slice_index_or rest s None ≡ None) → 0 < slot.tid → slot.tid < p.next_tid → TidsDiffer p
+pub tids_started : (p : ProcessState) (slot : Slot) (rest : List (Option Slot)) → p.slots ≡ Some slot ∷ rest
+    → ((s : ℕ) → slice_index_or rest s None ≡ None) → 0 < slot.tid → slot.tid < p.next_tid → TidsDiffer p
 tids_started p slot rest is free positive less = record {
   next = omega arith;
   above = λ s other there. (let e = only s other there in let f : other.tid ≡ slot.tid = ap (λ (z : Slot). z.tid) (sym e.1) in omega arith);

@@ -41,7 +41,8 @@ pub called_image : (t : ThreadState) (slot : Slot) (m : Option ℕ)
     ≡ followed (linux_thread t phase.User slot m 0) next.Call
 called_image t slot m =
     image_next (record t { granule = None }) (called t) slot None
-    ∙ ap (λ (z : LxCall). with_mark (with_call (linux_thread t phase.User slot m 0) z) None) (entered_image t.regs.sp (slice_index t.regs.x 8) (take 6 t.regs.x))
+    ∙ ap (λ (z : LxCall). with_mark (with_call (linux_thread t phase.User slot m 0) z) None)
+    (entered_image t.regs.sp (slice_index t.regs.x 8) (take 6 t.regs.x))
 
 -- a trap, with the FreeBSD signal of its signal
 abbrev pub trap_of : LinuxSig → ℤ → ℕ → Signal
@@ -58,19 +59,23 @@ abbrev pub mark_after : Action → Option ℕ → Option ℕ
 mark_after a m = if has_handler a.handler then None else m
 
 abbrev delivers_if : ThreadState → Action → Signal → Bool → ThreadState
-delivers_if t a x b = if b then record t { phase = phase.Frame (record { signal = x; action = a }); granule = None } else record t { phase = phase.User }
+delivers_if t a x b =
+    if b then record t { phase = phase.Frame (record { signal = x; action = a }); granule = None } else record t { phase = phase.User }
 
 pub delivers_image : (t : ThreadState) (slot : Slot) (m : Option ℕ) (a : Action) (x : Signal)
-    → lx.thread_by (linux_action a) (linux_thread t phase.User slot m 0) (linux_info x) ≡ linux_thread (delivers t a x) (delivers t a x).phase slot (mark_after a m) 0
+    → lx.thread_by (linux_action a) (linux_thread t phase.User slot m 0) (linux_info x)
+    ≡ linux_thread (delivers t a x) (delivers t a x).phase slot (mark_after a m) 0
 delivers_image t slot m a x = by (has_handler a.handler)
   where
-    by : (b : Bool) → (if b then lx.handled (linux_thread t phase.User slot m 0) (linux_info x) (linux_action a) else linux_thread t phase.User slot m 0)
+    by : (b : Bool)
+        → (if b then lx.handled (linux_thread t phase.User slot m 0) (linux_info x) (linux_action a) else linux_thread t phase.User slot m 0)
         ≡ linux_thread (delivers_if t a x b) (delivers_if t a x b).phase slot (if b then None else m) 0
     by true = refl
     by false = refl
 
 -- the actions then
-pub resets_image : (p : ProcessState) (a : Action) (x : Signal) → lx.actions_by (linux_action a) (map linux_action p.actions) (signal_out_of x.sig) ≡ map linux_action (resets_action p a x).actions
+pub resets_image : (p : ProcessState) (a : Action) (x : Signal)
+    → lx.actions_by (linux_action a) (map linux_action p.actions) (signal_out_of x.sig) ≡ map linux_action (resets_action p a x).actions
 resets_image p a x = by (is_reset a)
   where
     kept : (b : Bool) → map linux_action (slice_set p.actions (place_of x.sig) (record a { handler = SIG_DFL }))
@@ -78,10 +83,12 @@ resets_image p a x = by (is_reset a)
     kept true = refl
     kept false = refl
 
-    by : (b : Bool) → (if b then with_action (map linux_action p.actions) (signal_out_of x.sig) (lx.reset (linux_action a)) else map linux_action p.actions)
+    by : (b : Bool)
+        → (if b then with_action (map linux_action p.actions) (signal_out_of x.sig) (lx.reset (linux_action a)) else map linux_action p.actions)
         ≡ map linux_action (if b then bsd.acted p x.sig (Some (record a { handler = SIG_DFL })) else p).actions
     by false = refl
-    by true = with_action_image p.actions x.sig (record a { handler = SIG_DFL }) ∙ kept (bsd.is_ignored (record a { handler = SIG_DFL }) x.sig)
+    by true =
+        with_action_image p.actions x.sig (record a { handler = SIG_DFL }) ∙ kept (bsd.is_ignored (record a { handler = SIG_DFL }) x.sig)
 
 -- and what follows: which signal ends the guest, and which is pending nowhere any more
 abbrev fate_as : Action → BsdSig → Bool → Fate

@@ -206,7 +206,8 @@ data OfFutex (c : LxCall) : Type 0 where
 futex_stages : (c : LxCall) → is_futex_stage (stage_of c) ≡ true → OfFutex c
 futex_stages c h = by c.result refl h
   where
-    known : c.result ≡ None → is_futex_stage ((rules_at (call_of c.number)).stage c) ≡ true → Owner (call_of c.number) ((rules_at (call_of c.number)).stage c) → OfFutex c
+    known : c.result ≡ None → is_futex_stage ((rules_at (call_of c.number)).stage c) ≡ true
+        → Owner (call_of c.number) ((rules_at (call_of c.number)).stage c) → OfFutex c
     known e f (elsewhere g) = absurd (cc)
     known e f (futex g) = of_futex e g
     known e f (waitv g) = of_waitv e g
@@ -221,11 +222,13 @@ stage_by c k none known = ap (λ (o : Option ℕ). stage_with c o) none ∙ ap (
 
 -- ---- a futex that rests doesn't sleep
 
-awake_from : (c : LxCall) (first then_waits : Stage) (ps : List Piece) → c.waits ≡ false → is_sleep_stage first ≡ false → is_sleep_stage (waiting_from c first then_waits ps) ≡ false
+awake_from : (c : LxCall) (first then_waits : Stage) (ps : List Piece) → c.waits ≡ false → is_sleep_stage first ≡ false
+    → is_sleep_stage (waiting_from c first then_waits ps) ≡ false
 awake_from c first then_waits (p ∷ ps) rests e = refl
 awake_from c first then_waits [] rests e = by (has_time c) c.waits rests
   where
-    by : (timed waits : Bool) → waits ≡ false → is_sleep_stage (if timed then stage.Clock else (if waits then then_waits else first)) ≡ false
+    by : (timed waits : Bool) → waits ≡ false
+        → is_sleep_stage (if timed then stage.Clock else (if waits then then_waits else first)) ≡ false
     by true waits f = refl
     by false false f = e
     by false true f = absurd (cc)
@@ -261,7 +264,8 @@ many_sleeps c e = by (futex_stages (resting c) is.1)
     is = sleep_is (stage_of (resting c)) (stage_at_next c phase.Sleep e)
 
     by : OfFutex (resting c) → is_many c ≡ true
-    by (of_futex none known) = absurd (let f = ap is_sleep_stage (stage_by (resting c) (Some call.Futex) none known) in let g = awake_by (resting c) (operation_in (resting c)) refl in let h = is.0 in cc)
+    by (of_futex none known) =
+        absurd (let f = ap is_sleep_stage (stage_by (resting c) (Some call.Futex) none known) in let g = awake_by (resting c) (operation_in (resting c)) refl in let h = is.0 in cc)
     by (of_waitv none known) = ap is_waitv known
 
 -- ---- Queue
@@ -297,7 +301,8 @@ module _ (c : LxCall) (w : Wait) (bits : ℕ) where
   queue_from (p ∷ ps) e = absurd (cc)
   queue_from [] e = by (has_time c) c.waits e
     where
-      by : (timed waits : Bool) → (if timed then stage.Clock else (if waits then stage.Wait else stage.Queue (wait_of c bits))) ≡ stage.Queue w
+      by : (timed waits : Bool)
+          → (if timed then stage.Clock else (if waits then stage.Wait else stage.Queue (wait_of c bits))) ≡ stage.Queue w
           → ((if timed then stage.Clock else stage.Wait) ≡ stage.Wait) × (wait_of c bits ≡ w)
       by true waits f = absurd (cc)
       by false true f = absurd (cc)
@@ -312,13 +317,15 @@ lock_no_queue : (c : LxCall) (ps : List Piece) (w : Wait) → waiting_from c (st
 lock_no_queue c (p ∷ ps) w e = cc
 lock_no_queue c [] w e = by (has_time c) c.waits e
   where
-    by : (timed waits : Bool) → (if timed then stage.Clock else (if waits then stage.PiWait else stage.PiLock (lock_of c false))) ≢ stage.Queue w
+    by : (timed waits : Bool)
+        → (if timed then stage.Clock else (if waits then stage.PiWait else stage.PiLock (lock_of c false))) ≢ stage.Queue w
     by true waits f = cc
     by false true f = cc
     by false false f = cc
 
 queue_by : (c : LxCall) (o : Option FutexOperation) (w : Wait) → futex_stage_by c o ≡ stage.Queue w → Queues c o w
-queue_by c (Some operation.Wait) w e = let q = queue_from c w all_bits c.pieces e in record { plain = ap (λ (v : Wait). v.many) (sym q.1); place = ap (λ (v : Wait). v.place) (sym q.1); waits = q.0 }
+queue_by c (Some operation.Wait) w e =
+    let q = queue_from c w all_bits c.pieces e in record { plain = ap (λ (v : Wait). v.many) (sym q.1); place = ap (λ (v : Wait). v.place) (sym q.1); waits = q.0 }
 queue_by c (Some operation.WaitBitset) w e =
     let q = queue_from c w (low_argument c 5) c.pieces e in record { plain = ap (λ (v : Wait). v.many) (sym q.1); place = ap (λ (v : Wait). v.place) (sym q.1); waits = q.0 }
 queue_by c (Some operation.LockPi) w e = absurd (lock_no_queue c c.pieces w e)
@@ -328,20 +335,24 @@ queue_by c (Some operation.Wake) w e = absurd (cc)
 queue_by c (Some operation.WakeBitset) w e = absurd (cc)
 queue_by c (Some operation.Requeue) w e = absurd (cc)
 queue_by c (Some operation.CompareRequeue) w e = absurd (cc)
-queue_by c (Some operation.WakeOp) w e = absurd (wake_op_no_queue c (word_operation_in (low_argument c 5)) (comparison_in (low_argument c 5)) w e)
+queue_by c (Some operation.WakeOp) w e =
+    absurd (wake_op_no_queue c (word_operation_in (low_argument c 5)) (comparison_in (low_argument c 5)) w e)
 queue_by c None w e = absurd (cc)
 
 place_from : (c : LxCall) (ps : List Piece) (w : Wait) → waitv_from c ps ≡ stage.Queue w → place_wait c c.queued ≡ w
 place_from c (p ∷ ps) w e = absurd (cc)
 place_from c [] w e = by (has_time c) (has_queued c) e
   where
-    by : (timed queued : Bool) → (if timed then stage.Clock else (if queued then stage.WaitMany else stage.Queue (place_wait c c.queued))) ≡ stage.Queue w → place_wait c c.queued ≡ w
+    by : (timed queued : Bool)
+        → (if timed then stage.Clock else (if queued then stage.WaitMany else stage.Queue (place_wait c c.queued))) ≡ stage.Queue w
+        → place_wait c c.queued ≡ w
     by true queued f = absurd (cc)
     by false true f = absurd (cc)
     by false false f = same_wait (place_wait c c.queued) w f
 
 -- where the next stage is one that a call has as it waits, its phase then is Sleep
-sleeps_then : (c : Call) (st : Stage) → is_many c ≡ false → (resting c).result ≡ None → call_of c.number ≡ Some call.Futex → (rules_at (Some call.Futex)).stage (waiting (resting c)) ≡ st → phase_of (linux_call phase.Sleep c 0) st ≡ phase.Sleep
+sleeps_then : (c : Call) (st : Stage) → is_many c ≡ false → (resting c).result ≡ None → call_of c.number ≡ Some call.Futex
+    → (rules_at (Some call.Futex)).stage (waiting (resting c)) ≡ st → phase_of (linux_call phase.Sleep c 0) st ≡ phase.Sleep
     → next_in phase.Sleep c ≡ phase.Sleep
 sleeps_then c st one none known is then_sleeps =
     ap (λ (z : Stage). phase_of (linux_call phase.Sleep c 0) z)
@@ -371,20 +382,25 @@ queue_waits c w e waits = elim (queue_at c w e) [
 same_lock : (k l : PiLock) → stage.PiLock k ≡ stage.PiLock l → k ≡ l
 same_lock k l e = cc
 
-lock_from : (c : LxCall) (l : PiLock) (ps : List Piece) → waiting_from c (stage.PiLock (lock_of c false)) stage.PiWait ps ≡ stage.PiLock l → waiting_from (waiting c) (stage.PiLock (lock_of (waiting c) false)) stage.PiWait ps ≡ stage.PiWait
+lock_from : (c : LxCall) (l : PiLock) (ps : List Piece) → waiting_from c (stage.PiLock (lock_of c false)) stage.PiWait ps ≡ stage.PiLock l
+    → waiting_from (waiting c) (stage.PiLock (lock_of (waiting c) false)) stage.PiWait ps ≡ stage.PiWait
 lock_from c l (p ∷ ps) e = absurd (cc)
 lock_from c l [] e = by (has_time c) c.waits e
   where
-    by : (timed waits : Bool) → (if timed then stage.Clock else (if waits then stage.PiWait else stage.PiLock (lock_of c false))) ≡ stage.PiLock l → (if timed then stage.Clock else stage.PiWait) ≡ stage.PiWait
+    by : (timed waits : Bool)
+        → (if timed then stage.Clock else (if waits then stage.PiWait else stage.PiLock (lock_of c false))) ≡ stage.PiLock l
+        → (if timed then stage.Clock else stage.PiWait) ≡ stage.PiWait
     by true waits f = absurd (cc)
     by false true f = absurd (cc)
     by false false f = refl
 
-wait_no_lock : (c : LxCall) (bits : ℕ) (ps : List Piece) (l : PiLock) → waiting_from c (stage.Queue (wait_of c bits)) stage.Wait ps ≢ stage.PiLock l
+wait_no_lock : (c : LxCall) (bits : ℕ) (ps : List Piece) (l : PiLock)
+    → waiting_from c (stage.Queue (wait_of c bits)) stage.Wait ps ≢ stage.PiLock l
 wait_no_lock c bits (p ∷ ps) l e = cc
 wait_no_lock c bits [] l e = by (has_time c) c.waits e
   where
-    by : (timed waits : Bool) → (if timed then stage.Clock else (if waits then stage.Wait else stage.Queue (wait_of c bits))) ≢ stage.PiLock l
+    by : (timed waits : Bool)
+        → (if timed then stage.Clock else (if waits then stage.Wait else stage.Queue (wait_of c bits))) ≢ stage.PiLock l
     by true waits f = cc
     by false true f = cc
     by false false f = cc
@@ -394,24 +410,28 @@ wake_op_no_lock c (Some a) (Some b) l e = cc
 wake_op_no_lock c (Some a) None l e = cc
 wake_op_no_lock c None b l e = cc
 
-lock_by : (c : LxCall) (o : Option FutexOperation) (l : PiLock) → l.tries ≡ false → futex_stage_by c o ≡ stage.PiLock l → futex_stage_by (waiting c) o ≡ stage.PiWait
+lock_by : (c : LxCall) (o : Option FutexOperation) (l : PiLock) → l.tries ≡ false → futex_stage_by c o ≡ stage.PiLock l
+    → futex_stage_by (waiting c) o ≡ stage.PiWait
 lock_by c (Some operation.Wait) l asks e = absurd (wait_no_lock c all_bits c.pieces l e)
 lock_by c (Some operation.WaitBitset) l asks e = absurd (wait_no_lock c (low_argument c 5) c.pieces l e)
 lock_by c (Some operation.LockPi) l asks e = lock_from c l c.pieces e
-lock_by c (Some operation.TryLockPi) l asks e = absurd (let f : true ≡ l.tries = ap (λ (k : PiLock). k.tries) (same_lock (lock_of c true) l e) in cc)
+lock_by c (Some operation.TryLockPi) l asks e =
+    absurd (let f : true ≡ l.tries = ap (λ (k : PiLock). k.tries) (same_lock (lock_of c true) l e) in cc)
 lock_by c (Some operation.UnlockPi) l asks e = absurd (cc)
 lock_by c (Some operation.Wake) l asks e = absurd (cc)
 lock_by c (Some operation.WakeBitset) l asks e = absurd (cc)
 lock_by c (Some operation.Requeue) l asks e = absurd (cc)
 lock_by c (Some operation.CompareRequeue) l asks e = absurd (cc)
-lock_by c (Some operation.WakeOp) l asks e = absurd (wake_op_no_lock c (word_operation_in (low_argument c 5)) (comparison_in (low_argument c 5)) l e)
+lock_by c (Some operation.WakeOp) l asks e =
+    absurd (wake_op_no_lock c (word_operation_in (low_argument c 5)) (comparison_in (low_argument c 5)) l e)
 lock_by c None l asks e = absurd (cc)
 
 waitv_no_lock : (c : LxCall) (ps : List Piece) (l : PiLock) → waitv_from c ps ≢ stage.PiLock l
 waitv_no_lock c (p ∷ ps) l e = cc
 waitv_no_lock c [] l e = by (has_time c) (has_queued c) e
   where
-    by : (timed queued : Bool) → (if timed then stage.Clock else (if queued then stage.WaitMany else stage.Queue (place_wait c c.queued))) ≢ stage.PiLock l
+    by : (timed queued : Bool)
+        → (if timed then stage.Clock else (if queued then stage.WaitMany else stage.Queue (place_wait c c.queued))) ≢ stage.PiLock l
     by true queued f = cc
     by false true f = cc
     by false false f = cc
@@ -428,7 +448,8 @@ lock_at c l asks e = by (futex_stages (resting c) (ap is_futex_stage e))
     by (of_futex none known) =
         let q = lock_by (resting c) (operation_in (resting c)) l asks (sym (stage_by (resting c) (Some call.Futex) none known) ∙ e) in
         record { one = ap is_waitv known; follows = sleeps_then c stage.PiWait (ap is_waitv known) none known q refl }
-    by (of_waitv none known) = absurd (waitv_no_lock (resting c) (resting c).pieces l (sym (stage_by (resting c) (Some call.FutexWaitv) none known) ∙ e))
+    by (of_waitv none known) =
+        absurd (waitv_no_lock (resting c) (resting c).pieces l (sym (stage_by (resting c) (Some call.FutexWaitv) none known) ∙ e))
 
 pub lock_waits : (c : Call) (l : PiLock) → l.tries ≡ false → stage_of (resting c) ≡ stage.PiLock l → WaitsOn c
 lock_waits c l asks e waits = (lock_at c l asks e).follows
