@@ -4,6 +4,7 @@ pub mod Threads
 pub mod Stages
 pub mod Waits
 pub mod Phases
+pub mod Sleeps
 pub mod Signals
 pub mod Actions
 pub mod Tids

@@ -44,7 +44,7 @@ use Rattle.threads_stand.proofs.Stages.{SleepStage, sleeps, sleeps_many, sleeps_
 
 -- ---- stages at a futex's word, and waits there; Mark and Release apart, which a death has too
 
-abbrev is_futex_stage : Stage → Bool
+abbrev pub is_futex_stage : Stage → Bool
 is_futex_stage (stage.Queue w) = true
 is_futex_stage (stage.Requeue r) = true
 is_futex_stage (stage.WakeOp w) = true
@@ -55,7 +55,7 @@ is_futex_stage stage.WaitMany = true
 is_futex_stage stage.PiWait = true
 is_futex_stage _ = false
 
-abbrev is_sleep_stage : Stage → Bool
+abbrev pub is_sleep_stage : Stage → Bool
 is_sleep_stage stage.Wait = true
 is_sleep_stage stage.WaitMany = true
 is_sleep_stage stage.PiWait = true
@@ -199,11 +199,11 @@ owner c (Some call.Madvise) = elsewhere refl
 owner c (Some call.FutexWaitv) = waitv refl
 
 -- a call with such a stage has no result, and is one of the two
-data OfFutex (c : LxCall) : Type 0 where
+pub data OfFutex (c : LxCall) : Type 0 where
   of_futex : c.result ≡ None → call_of c.number ≡ Some call.Futex → OfFutex c
   of_waitv : c.result ≡ None → call_of c.number ≡ Some call.FutexWaitv → OfFutex c
 
-futex_stages : (c : LxCall) → is_futex_stage (stage_of c) ≡ true → OfFutex c
+pub futex_stages : (c : LxCall) → is_futex_stage (stage_of c) ≡ true → OfFutex c
 futex_stages c h = by c.result refl h
   where
     known : c.result ≡ None → is_futex_stage ((rules_at (call_of c.number)).stage c) ≡ true
@@ -217,7 +217,7 @@ futex_stages c h = by c.result refl h
     by None e f = known e f (owner c (call_of c.number))
 
 -- the stage of a call without a result, by which call it is
-stage_by : (c : LxCall) (k : Option LinuxCall) → c.result ≡ None → call_of c.number ≡ k → stage_of c ≡ (rules_at k).stage c
+pub stage_by : (c : LxCall) (k : Option LinuxCall) → c.result ≡ None → call_of c.number ≡ k → stage_of c ≡ (rules_at k).stage c
 stage_by c k none known = ap (λ (o : Option ℕ). stage_with c o) none ∙ ap (λ (o : Option LinuxCall). (rules_at o).stage c) known
 
 -- ---- a futex that rests doesn't sleep
@@ -251,7 +251,7 @@ awake_by c (Some operation.CompareRequeue) rests = refl
 awake_by c (Some operation.WakeOp) rests = wake_op_awake c (word_operation_in (low_argument c 5)) (comparison_in (low_argument c 5))
 awake_by c None rests = refl
 
-sleep_is : (st : Stage) → SleepStage st → (is_sleep_stage st ≡ true) × (is_futex_stage st ≡ true)
+pub sleep_is : (st : Stage) → SleepStage st → (is_sleep_stage st ≡ true) × (is_futex_stage st ≡ true)
 sleep_is st (sleeps e) = (ap is_sleep_stage e, ap is_futex_stage e)
 sleep_is st (sleeps_many e) = (ap is_sleep_stage e, ap is_futex_stage e)
 sleep_is st (sleeps_pi e) = (ap is_sleep_stage e, ap is_futex_stage e)

@@ -1,11 +1,15 @@
 -- The phase of a thread in a call: that of the stage of its call in the Linux machine. Source: the phases of a thread are this
 -- project's own.
-use Rattle.std.specs.Prelude.{◌≡◌, true, Option, Some, None}
+use Rattle.std.specs.Prelude.{◌≡◌, ℕ, Bool, true, false, List, [], ◌∷◌, Option, Some, None}
 use Rattle.linux_abi.specs.Call.{call_of}
 use Rattle.linux_abi.specs.declared.calls.Call.{Call as LinuxCall}
 use Rattle.linux_abi.specs.declared.calls.Call.TheVariants as call
+use Rattle.linux_abi.specs.declared.futexes.FutexOperation.{FutexOperation}
+use Rattle.linux_abi.specs.declared.futexes.FutexOperation.TheVariants as operation
+use Rattle.lx_machine.specs.Futex.{operation_in}
 use Rattle.lx_machine.specs.Shape.{stage_of}
 use Rattle.lx_machine.specs.declared.calls.LxCall.{LxCall}
+use Rattle.lx_machine.specs.declared.calls.Piece.{Piece}
 use Rattle.lx_machine.specs.declared.calls.Stage.{Stage}
 use Rattle.lx_machine.specs.declared.calls.Stage.TheVariants as stage
 use Rattle.lx_machine.specs.declared.death.Death.{Death}
@@ -16,7 +20,7 @@ use Rattle.bsd_thread.specs.declared.phase.Phase.{Phase}
 use Rattle.bsd_thread.specs.declared.phase.Phase.TheVariants as phase
 use Rattle.bsd_thread.specs.declared.phase.Turn.TheVariants as turn
 use Rattle.bsd_thread.specs.declared.thread.ThreadState.{ThreadState}
-use Rattle.threads_stand.specs.Image.{linux_call, waits_in}
+use Rattle.threads_stand.specs.Image.{linux_call, resting, waits_in}
 
 -- ---- the phase of a stage
 
@@ -93,6 +97,36 @@ next_phase c = next_in phase.Return c
 -- the thread in this call, at its next phase
 unfoldable pub advanced : ThreadState → Call → ThreadState
 advanced t c = record t { call = c; phase = next_phase c }
+
+-- ---- by the FreeBSD call itself
+
+-- a call that has its answer stores its bytes piece by piece, and then it returns
+abbrev pub storing_phase : List Piece → List ℕ → Option Death → Phase
+storing_phase [] bytes d = phase.Return
+storing_phase (p ∷ ps) [] d = phase.Return
+storing_phase (p ∷ ps) (b ∷ bytes) d = store_phase d
+
+-- before that it gives its hold back
+abbrev pub held_phase : Call → Option ℕ → Phase
+held_phase c (Some file) = phase.Drop
+held_phase c None = storing_phase c.pieces c.bytes c.death
+
+-- a clone stores its tid, and then its child starts
+abbrev pub birth_phase : List Piece → Option Death → Phase
+birth_phase [] d = phase.Start
+birth_phase (p ∷ ps) d = store_phase d
+
+abbrev pub answered_phase : Call → Option ℕ → Phase
+answered_phase c (Some child) = birth_phase c.pieces c.death
+answered_phase c None = held_phase c c.held
+
+-- a wait for a lock that names its owner (FUTEX_LOCK_PI)
+abbrev pub is_lock_pi : Option FutexOperation → Bool
+is_lock_pi (Some operation.LockPi) = true
+is_lock_pi _ = false
+
+abbrev pub asks_lock : Call → Bool
+asks_lock c = is_lock_pi (operation_in (resting c))
 
 -- ---- a phase fits its call
 
