@@ -14,3 +14,4 @@ pub mod Begins
 pub mod Users
 pub mod Actors
 pub mod Processes
+pub mod Takes

@@ -247,7 +247,8 @@ module _ (threads : ℕ → Option ThreadState) (p : ProcessState) (rest : ℕ �
       free =
           take_mapped is_none n L.threads
           ∙ ap (λ (l : List Bool). take n l)
-          (agree (λ (lt : Option LxThread). is_none lt) (λ (o : Option Slot). is_none o) (λ t o k lt f g. free_in_place t o k lt g)) ∙ sym (take_mapped is_none n p.slots)
+          (agree (λ (lt : Option LxThread). is_none lt) (λ (o : Option Slot). is_none o) (λ t o k lt f g. free_in_place t o k lt g))
+          ∙ sym (take_mapped is_none n p.slots)
 
       first : first_free (take n L.threads) ≡ position is_none (take n p.slots)
       first =

@@ -89,7 +89,8 @@ lock_from c [] = by (has_time c) c.waits
     by false true = is_lock refl refl
     by false false = is_awake (no_sleep (stage.PiLock (lock_of c false)) (λ f. (cc)) (λ f. (cc)) (λ f. (cc)))
 
-wake_op_awake : (c : LxCall) (o : Option FutexOperation) (a : Option WordOperation) (b : Option Comparison) → FutexSleeps o (wake_op_by c a b)
+wake_op_awake : (c : LxCall) (o : Option FutexOperation) (a : Option WordOperation) (b : Option Comparison)
+    → FutexSleeps o (wake_op_by c a b)
 wake_op_awake c o (Some a) (Some b) = is_awake (λ s. no_sleep _ (λ f. (cc)) (λ f. (cc)) (λ f. (cc)) s)
 wake_op_awake c o (Some a) None = is_awake (no_sleep stage.Return (λ f. (cc)) (λ f. (cc)) (λ f. (cc)))
 wake_op_awake c o None b = is_awake (no_sleep stage.Return (λ f. (cc)) (λ f. (cc)) (λ f. (cc)))
@@ -138,7 +139,8 @@ sleeps_at c e = by (futex_stages lc (sleep_is (stage_of lc) asleep).1)
         by_same st same (sleeps_many f) = sleeps_many (sym same ∙ f)
         by_same st same (sleeps_pi f) = sleeps_pi (sym same ∙ f)
 
-    at_futex : is_many c ≡ false → stage_of lc ≡ futex_stage_by lc (operation_in lc) → FutexSleeps (operation_in lc) (futex_stage_by lc (operation_in lc)) → Sleeps c
+    at_futex : is_many c ≡ false → stage_of lc ≡ futex_stage_by lc (operation_in lc)
+        → FutexSleeps (operation_in lc) (futex_stage_by lc (operation_in lc)) → Sleeps c
     at_futex one same (is_plain a b) = plain one a (same ∙ b)
     at_futex one same (is_lock a b) = lock one a (same ∙ b)
     at_futex one same (is_awake none) = absurd (none (to (futex_stage_by lc (operation_in lc)) same))

@@ -265,7 +265,10 @@ many_sleeps c e = by (futex_stages (resting c) is.1)
 
     by : OfFutex (resting c) → is_many c ≡ true
     by (of_futex none known) =
-        absurd (let f = ap is_sleep_stage (stage_by (resting c) (Some call.Futex) none known) in let g = awake_by (resting c) (operation_in (resting c)) refl in let h = is.0 in cc)
+        let f = ap is_sleep_stage (stage_by (resting c) (Some call.Futex) none known) in
+        let g = awake_by (resting c) (operation_in (resting c)) refl in
+        let h = is.0 in
+        absurd (cc)
     by (of_waitv none known) = ap is_waitv known
 
 -- ---- Queue
