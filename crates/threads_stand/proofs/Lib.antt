@@ -1,0 +1,17 @@
+pub mod Mapped
+pub mod Calls
+pub mod Threads
+pub mod Stages
+pub mod Waits
+pub mod Phases
+pub mod Sleeps
+pub mod Signals
+pub mod Actions
+pub mod Tids
+pub mod Places
+pub mod Frames
+pub mod Begins
+pub mod Users
+pub mod Actors
+pub mod Processes
+pub mod Takes
