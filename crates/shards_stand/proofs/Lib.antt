@@ -1,0 +1,12 @@
+pub mod Marks
+pub mod Store
+pub mod StorePieces
+pub mod LoadPieces
+pub mod CodeFetch
+pub mod Threads
+pub mod PieceLaw
+pub mod Shardwise
+pub mod Ranges
+pub mod SpaceCalls
+pub mod Access
+pub mod FitAccess

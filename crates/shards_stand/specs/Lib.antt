@@ -1,0 +1,9 @@
+pub mod Shards
+pub mod Kept
+pub mod Clause
+pub mod Pieces
+pub mod SlotMarks
+pub mod Accesses
+pub mod CodeWord
+pub mod RangeChanges
+pub mod SpaceRows
