@@ -10,3 +10,6 @@ pub mod Ranges
 pub mod SpaceCalls
 pub mod Access
 pub mod FitAccess
+pub mod SpaceLaw
+pub mod Begins
+pub mod Local

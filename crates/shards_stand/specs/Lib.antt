@@ -7,3 +7,5 @@ pub mod Accesses
 pub mod CodeWord
 pub mod RangeChanges
 pub mod SpaceRows
+pub mod Begin
+pub mod Holding
