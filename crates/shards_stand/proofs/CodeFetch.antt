@@ -9,6 +9,7 @@ use Rattle.std.proofs.lemmas.List.{get_or-take, get_or-drop, length-take-le, len
 use Rattle.lx_memory.proofs.Stored.{bytes_at-is}
 use Rattle.lx_memory.specs.Bytes.{bytes_at, bytes_of_page}
 use Rattle.lx_memory.specs.declared.right.Right.TheVariants.{Execute}
+use Rattle.lx_memory.specs.Codes.{code_at}
 use Rattle.lx_memory.specs.Queries.{first_lacking, is_allowed}
 use Rattle.shards_stand.specs.Shards.{Parts}
 use Rattle.shards_stand.specs.Kept.{kept}
@@ -31,10 +32,6 @@ in-page pages at k page there whole fits =
     ∙ sym (ap (λ (n : ℕ). get_or (bytes_of_page (finite.get pages n)) ((at + i) % 4096) 0) in_page
     ∙ ap (λ (o : Option Page). get_or (bytes_of_page o) ((at + i) % 4096) 0) there
     ∙ ap (λ (j : ℕ). get_or page.bytes j 0) in_place))
-
--- the word that the Linux machine executes, if it may be executed
-abbrev pub linux_word : Pages → ℕ → Option ℕ
-linux_word pages pc = if is_allowed Execute pages pc 4 then Some (place.number_of (bytes_at pages pc 4)) else None
 
 executable : (b : Bool) (page : Page) → page.rights.execute ≡ b → page_if (allows Execute) (Some page) ≡ (if b then Some page else None)
 executable b page is = ap (λ (x : Bool). if x then Some page else None) is
@@ -59,7 +56,7 @@ one-page : (M : Parts) (first n : ℕ) → n ≡ 1 → page_lacking (allows Exec
 unfolding page_lacking
 one-page M first n one = ap (page_lacking (allows Execute) M first) one
 
-pub fetch-same : (code : Pages) (M : Parts) (granules marks : ℕ → Option ℕ) (pages : Pages) (pc : ℕ) → MemoryStands M granules pages marks → MemorySound code M → pc % 4 ≡ 0 → pc < 2 ^ 64 → code_word code pc ≡ linux_word pages pc
+pub fetch-same : (code : Pages) (M : Parts) (granules marks : ℕ → Option ℕ) (pages : Pages) (pc : ℕ) → MemoryStands M granules pages marks → MemorySound code M → pc % 4 ≡ 0 → pc < 2 ^ 64 → code_word code pc ≡ code_at pages pc
 fetch-same code M granules marks pages pc st sound aligned small =
     by (finite.get code (pc / 4096)) refl
   where
@@ -72,7 +69,7 @@ fetch-same code M granules marks pages pc st sound aligned small =
         ∙ ap (byte_on pc) (one-page M (pc / 4096) (touched pc 4) (omega arith))
         ∙ ap (λ (b : Bool). byte_on pc (if b then None else Some (pc / 4096))) (has-if (kept M (pc / 4096)) ∙ ap (λ (o : Option Page). is_some o) (sym (sound.code_is (pc / 4096))))
 
-    by : (o : Option Page) → finite.get code (pc / 4096) ≡ o → option_map (λ page. place.number_of (slice_range page.bytes (pc % 4096) (pc % 4096 + 4))) (finite.get code (pc / 4096)) ≡ linux_word pages pc
+    by : (o : Option Page) → finite.get code (pc / 4096) ≡ o → option_map (λ page. place.number_of (slice_range page.bytes (pc % 4096) (pc % 4096 + 4))) (finite.get code (pc / 4096)) ≡ code_at pages pc
     by None is =
         ap (option_map (λ page. place.number_of (slice_range page.bytes (pc % 4096) (pc % 4096 + 4)))) is
         ∙ sym (ap (λ (o : Option ℕ). if not (is_some o) then Some (place.number_of (bytes_at pages pc 4)) else None) (lack ∙ ap (λ (o : Option Page). byte_on pc (if is_some o then None else Some (pc / 4096))) is))

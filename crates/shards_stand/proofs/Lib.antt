@@ -13,3 +13,4 @@ pub mod FitAccess
 pub mod SpaceLaw
 pub mod Begins
 pub mod Local
+pub mod AccessLocal

@@ -9,6 +9,7 @@ use Rattle.lx_memory.specs.Bytes.{bytes_at, with_bytes}
 use Rattle.lx_memory.specs.declared.right.Right.{Right}
 use Rattle.lx_memory.specs.declared.right.Right.TheVariants.{Write}
 use Rattle.lx_memory.specs.Queries.{is_allowed}
+use Rattle.lx_machine.specs.SignalFrame.{frame_size, is_writable}
 use Rattle.shards_stand.specs.Shards.{Parts}
 use Rattle.shards_stand.specs.Kept.{standing}
 use Rattle.shards_stand.specs.Clause.{MemoryStands, MemorySound, Stays}
@@ -50,3 +51,8 @@ module _ (code : Pages) (M : Parts) (granules marks : ℕ → Option ℕ) (pages
   marks-change slot xs long may x kept_by =
       let all : MemoryStands M (λ s. kept_by) pages (λ s. standing M s kept_by) = record { pages_stand = st.pages_stand; marks_stand = λ s. refl } in
       sym ((stored-by code M (λ s. kept_by) (λ s. standing M s kept_by) pages all sound at len some small slot xs long may).stands.marks_stand x)
+
+-- the frame of a signal is one piece, with the record of the vector registers
+pub frame-same : (code : Pages) (M : Parts) (granules marks : ℕ → Option ℕ) (pages : Pages) → MemoryStands M granules pages marks → MemorySound code M → (at : ℕ) → at < 2 ^ 64 → may_copy Write M at frame_size ≡ is_writable pages at
+unfolding is_writable
+frame-same code M granules marks pages st sound at small = allowed-same code M granules marks pages st sound at frame_size (omega arith) small Write

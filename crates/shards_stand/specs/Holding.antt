@@ -1,6 +1,11 @@
 -- What is held of a machine's shards, and what is done to it alone. Source: this project's own.
 use Rattle.std.specs.Prelude.{◌≡◌, ℕ, ◌+◌, ◌/◌, ◌%◌, ◌<◌, ◌≤◌, true, false, is_some, IfSome}
+use Rattle.a64_model.specs.declared.access.Access.{Access}
+use Rattle.a64_model.specs.declared.access.Access.TheVariants as access
 use Rattle.shards_stand.specs.Shards.{Parts, shard_at}
+use Rattle.shards_stand.specs.Pieces.{touched}
+use Rattle.shards_stand.specs.Accesses.{Accessed}
+use Rattle.shards_stand.specs.SpaceRows.{After}
 
 -- the shard of each of so many pages from `first` on is held
 abbrev pub HoldsPages : Parts → ℕ → ℕ → Type 0
@@ -24,3 +29,29 @@ pub record IsLocal (h M h' M' : Parts) : Type 0 where
   pub same : (i : ℕ) → is_some (shard_at h' i) ≡ is_some (shard_at h i)
   pub parts : AreParts h' M'
   pub beside : (i : ℕ) → is_some (shard_at h i) ≡ false → shard_at M' i ≡ shard_at M i
+
+-- the shards of the pages that an access touches are held
+abbrev pub HoldsAccess : Parts → Access → Type 0
+HoldsAccess h access.None = Unit {0}
+HoldsAccess h (access.Load at len marks) = HoldsPages h (at / 4096) (touched at len)
+HoldsAccess h (access.Store at len bytes exclusive) = HoldsPages h (at / 4096) (touched at len)
+HoldsAccess h (access.Swap at len op value expected) = HoldsPages h (at / 4096) (touched at len)
+HoldsAccess h access.ClearMark = Unit {0}
+
+-- an access of what is held is that of the machine
+pub record IsAccessLocal (h M : Parts) (a b : Accessed) : Type 0 where
+  pub parts_are : IsLocal h M a.parts b.parts
+  pub granule_is : a.granule ≡ b.granule
+  pub answer_is : a.answer ≡ b.answer
+
+-- a call on a range, where all shards are held, is that of the machine
+abbrev pub HoldsShards : Parts → Type 0
+HoldsShards h = (i : ℕ) → i < 16 → is_some (shard_at h i) ≡ true
+
+pub record IsCallLocal (h M : Parts) (a b : After) : Type 0 where
+  pub parts_are : IsLocal h M a.space.parts b.space.parts
+  pub areas_are : a.space.areas ≡ b.space.areas
+  pub break_is : a.space.break_at ≡ b.space.break_at
+  pub start_is : a.space.break_start ≡ b.space.break_start
+  pub answer_is : a.answer ≡ b.answer
+  pub short_is : a.short ≡ b.short
