@@ -14,3 +14,4 @@ pub mod SpaceLaw
 pub mod Begins
 pub mod Local
 pub mod AccessLocal
+pub mod CallsLocal
