@@ -4,15 +4,15 @@ use Rattle.std.specs.FinMap as finite
 use Rattle.std.specs.Ordering.{nat_cmp}
 use Rattle.std.proofs.lemmas.Bool.{cases_eq}
 use Rattle.std.proofs.lemmas.List.{length-replicate}
-use Rattle.page_store.specs.Pages.{Page, page_if}
+use Rattle.page_store.specs.Pages.{Page, Pages, page_if}
 use Rattle.lx_memory.specs.Access.{allows}
 use Rattle.lx_memory.specs.declared.right.Right.TheVariants.{Execute}
 use Rattle.lx_memory.proofs.OnEach.{get-with_page_same, get-with_page_other}
 use Rattle.guest_mem.specs.Held.{Held}
 use Rattle.shards_stand.specs.Shards.{Parts, shard_at}
 use Rattle.shards_stand.specs.Kept.{kept, kept_in, mark_in, is_mark}
-use Rattle.shards_stand.specs.Clause.{PageStands, MemoryStands, MemorySound, IsShardOf}
-use Rattle.shards_stand.specs.Begin.{Numbered, with_page_laid, lay, pages_laid, code_laid, AreGood, AreStarted}
+use Rattle.shards_stand.specs.Clause.{PageStands, MemoryStands, MemorySound, IsShardOf, Stays}
+use Rattle.shards_stand.specs.Begin.{Numbered, with_page_laid, lay, pages_laid, AreStarted, HasFirst, AreFirst, IsCodeOf}
 use Rattle.shards_stand.proofs.Store.{page_or}
 use Rattle.shards_stand.proofs.Ranges.{change-same, change-other}
 
@@ -77,36 +77,15 @@ module _ (share : ℕ) (M : Parts) (start : AreStarted share M) where
     | inr other ↦ ap (λ (o : Option Held). mark_in o s) (change-other (lay ns M) (n.number % 16) i (with_page_laid n) other) ∙ laid-marks ns i s lt
   ]
 
--- ---- the pages alone
+-- the pages that were laid, and no other
+pub laid-first : (share : ℕ) (M : Parts) (ns : List Numbered) → AreStarted share M → HasFirst (lay ns M) (pages_laid ns)
+laid-first share M ns start = record {
+  there = laid-slots share M start ns;
+  kept_are = laid-kept share M start ns;
+  unmarked = λ s g. ap (λ (m : Option ℕ). is_mark m g) (laid-marks share M start ns (g / 256 % 16) s (omega arith));
+}
 
-get-nothing : (q : ℕ) → finite.get {K = ℕ} {X = Page} {R = nat_cmp} finite.empty q ≡ None
-get-nothing q = finite.get-empty nat_cmp q
-
-good-page : (ns : List Numbered) (q : ℕ) (page : Page) → AreGood ns → finite.get (pages_laid ns) q ≡ Some page → (length page.bytes ≡ 4096) × (q < 2 ^ 52) × (page.rights.execute ≡ true → page.rights.write ≡ false)
-unfolding pages_laid
-good-page [] q page good is = absurd (let none = get-nothing q in cc)
-good-page (n ∷ ns) q page good is = elim (cases_eq q n.number) [
-  | inl same ↦
-      let it : n.page ≡ page = ap (page_or page) (sym (get-with_page_same (pages_laid ns) n.number (Some n.page) q same) ∙ is) in
-      subst (λ (p : Page). (length p.bytes ≡ 4096) × (q < 2 ^ 52) × (p.rights.execute ≡ true → p.rights.write ≡ false)) it (good.0, omega (arith, good.1, same), good.2)
-  | inr other ↦ good-page ns q page good.3 (sym (get-with_page_other (pages_laid ns) n.number (Some n.page) q other) ∙ is)
-]
-
-code-one : (b : Bool) (ns : List Numbered) (n : Numbered) (q : ℕ) → n.page.rights.execute ≡ b → q ≡ n.number → finite.get (if b then finite.insert (code_laid ns) n.number n.page else finite.remove (code_laid ns) n.number) q ≡ page_if (allows Execute) (Some n.page)
-code-one true ns n q is same = get-with_page_same (code_laid ns) n.number (Some n.page) q same ∙ sym (ap (λ (b : Bool). if b then Some n.page else None) is)
-code-one false ns n q is same = get-with_page_same (code_laid ns) n.number None q same ∙ sym (ap (λ (b : Bool). if b then Some n.page else None) is)
-
-code-two : (b : Bool) (ns : List Numbered) (n : Numbered) (q : ℕ) → q ≢ n.number → finite.get (if b then finite.insert (code_laid ns) n.number n.page else finite.remove (code_laid ns) n.number) q ≡ finite.get (code_laid ns) q
-code-two true ns n q other = get-with_page_other (code_laid ns) n.number (Some n.page) q other
-code-two false ns n q other = get-with_page_other (code_laid ns) n.number None q other
-
-code-laid : (ns : List Numbered) (q : ℕ) → finite.get (code_laid ns) q ≡ page_if (allows Execute) (finite.get (pages_laid ns) q)
-unfolding code_laid pages_laid
-code-laid [] q = get-nothing q ∙ sym (ap (λ (o : Option Page). page_if (allows Execute) o) (get-nothing q))
-code-laid (n ∷ ns) q = elim (cases_eq q n.number) [
-  | inl same ↦ code-one n.page.rights.execute ns n q refl same ∙ sym (ap (λ (o : Option Page). page_if (allows Execute) o) (get-with_page_same (pages_laid ns) n.number (Some n.page) q same))
-  | inr other ↦ code-two n.page.rights.execute ns n q other ∙ code-laid ns q ∙ sym (ap (λ (o : Option Page). page_if (allows Execute) o) (get-with_page_other (pages_laid ns) n.number (Some n.page) q other))
-]
+-- ---- the clause
 
 code-write : (k : Option Page) (page : Page) → page_if (allows Execute) k ≡ Some page → (k ≡ Some page) × (page.rights.execute ≡ true)
 code-write None page is = absurd (cc)
@@ -120,20 +99,27 @@ stands-self : (k : Option Page) → PageStands k k
 stands-self None = tt
 stands-self (Some page) = refl
 
--- no thread has marked anything
-pub begins : (share : ℕ) (M : Parts) (ns : List Numbered) → AreStarted share M → AreGood ns → MemoryStands (lay ns M) (λ s. None) (pages_laid ns) (λ s. None) × MemorySound (code_laid ns) (lay ns M)
-begins share M ns start good = (
-  record { pages_stand = λ p. subst (λ (o : Option Page). PageStands o (finite.get (pages_laid ns) p)) (sym (laid-kept share M start ns p)) (stands-self (finite.get (pages_laid ns) p)); marks_stand = λ s. refl },
-  record {
-    there = laid-slots share M start ns;
-    whole = λ p page is. (good-page ns p page good (sym (laid-kept share M start ns p) ∙ is)).0;
-    marks_kept = λ s g is. (let none = ap (λ (m : Option ℕ). is_mark m g) (laid-marks share M start ns (g / 256 % 16) s (omega arith)) in absurd (cc));
-    in_space = λ p past. laid-kept share M start ns p ∙ none-past p past (finite.get (pages_laid ns) p) refl;
-    code_is = λ p. code-laid ns p ∙ ap (λ (o : Option Page). page_if (allows Execute) o) (sym (laid-kept share M start ns p));
-    code_fixed = λ p page is. let it = code-write (finite.get (pages_laid ns) p) page (sym (code-laid ns p) ∙ is) in (good-page ns p page good it.0).2 it.1;
-  },
-)
+-- where the shards keep exactly the first pages, and no thread has marked anything
+pub begins : (code : Pages) (M : Parts) (pages : Pages) → HasFirst M pages → AreFirst pages → IsCodeOf code pages → Stays code M (λ s. None) pages (λ s. None)
+begins code M pages has are is_code = record {
+  stands = record {
+    pages_stand = λ p. subst (λ (o : Option Page). PageStands o (finite.get pages p)) (sym (has.kept_are p)) (stands-self (finite.get pages p));
+    marks_stand = λ s. refl;
+  };
+  sound = record {
+    there = has.there;
+    whole = λ p page is. are.whole p page (sym (has.kept_are p) ∙ is);
+    marks_kept = λ s g is. (let none = has.unmarked s g in absurd (cc));
+    in_space = λ p past. has.kept_are p ∙ are.in_space p past;
+    code_is = λ p. is_code p ∙ ap (λ (o : Option Page). page_if (allows Execute) o) (sym (has.kept_are p));
+    code_fixed = λ p page is.
+        let it = code-write (finite.get pages p) page (sym (is_code p) ∙ is) in
+        not-written p page (finite.get pages p) refl it.0 it.1 page.rights.write refl;
+  };
+}
   where
-    none-past : (p : ℕ) → 2 ^ 52 ≤ p → (o : Option Page) → finite.get (pages_laid ns) p ≡ o → finite.get (pages_laid ns) p ≡ None
-    none-past p past None is = is
-    none-past p past (Some page) is = absurd (let lt = (good-page ns p page good is).1 in omega (arith, lt))
+    not-written : (p : ℕ) (page : Page) (o : Option Page) → finite.get pages p ≡ o → finite.get pages p ≡ Some page → page.rights.execute ≡ true → (b : Bool) → page.rights.write ≡ b → page.rights.write ≡ false
+    not-written p page o is there execute false write = write
+    not-written p page o is there execute true write =
+        let no = are.guarded p page.rights (ap (option_map (λ (x : Page). x.rights)) there) write in
+        absurd (cc)

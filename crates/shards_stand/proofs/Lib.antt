@@ -15,3 +15,4 @@ pub mod Begins
 pub mod Local
 pub mod AccessLocal
 pub mod CallsLocal
+pub mod Written
