@@ -16,3 +16,4 @@ pub mod Local
 pub mod AccessLocal
 pub mod CallsLocal
 pub mod Written
+pub mod Starts

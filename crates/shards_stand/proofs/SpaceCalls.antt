@@ -65,7 +65,7 @@ given-rule rights plain = record {
     keeps None e is = is
     keeps (Some x) e is = refl
 
-blank-length : length blank ≡ 4096
+pub blank-length : length blank ≡ 4096
 unfolding blank
 blank-length = length-replicate {A = ℕ} 4096 0
 
