@@ -1,5 +1,5 @@
 -- An access of an instruction answers what it does on the Linux pages, and the clause stays.
-use Rattle.std.proofs.Common.{◌≡◌, ◌≢◌, ℕ, suc, ◌+◌, ◌-◌, ◌/◌, ◌%◌, ◌^◌, ◌<◌, ◌≤◌, Bool, true, false, ◌==◌, ◌&&◌, is_some, List, length, take, Option, Some, None, if◌then◌else◌, refl, sym, ap, subst, ◌∙◌, arith, inl, inr, get_or-set_other, get_or-set_same}
+use Rattle.std.proofs.Common.{◌≡◌, ◌≢◌, ℕ, suc, ◌+◌, ◌-◌, ◌/◌, ◌%◌, ◌<◌, Bool, true, false, ◌==◌, ◌&&◌, is_some, List, length, take, Option, Some, None, if◌then◌else◌, refl, sym, ap, subst, ◌∙◌, arith, inl, inr, get_or-set_other, get_or-set_same}
 use Rattle.std.specs.FinMap as finite
 use Rattle.std.proofs.lemmas.Bool.{cases_eq}
 use Rattle.std.proofs.lemmas.Bool.Decides.{nat_tests}
@@ -25,7 +25,7 @@ use Rattle.shards_stand.specs.Shards.{Parts, shard_at, put_shard}
 use Rattle.shards_stand.specs.Kept.{kept, kept_in, mark_in, is_mark, marked, standing}
 use Rattle.shards_stand.specs.Clause.{IsShardOf, MemoryStands, MemorySound, PageStands, Stays}
 use Rattle.shards_stand.specs.Pieces.{touched, lacking, bytes_in, store_in, changed_shard, store_all, AllHave}
-use Rattle.shards_stand.specs.Accesses.{Accessed, answers, accessed, load, store, store_exclusive, swap, has_mark, put_mark, AccessStands, IsFit}
+use Rattle.shards_stand.specs.Accesses.{answers, accessed, load, store, store_exclusive, swap, has_mark, put_mark, AccessStands, IsFit}
 use Rattle.shards_stand.specs.SlotMarks.{marks_left, wrote, put}
 use Rattle.shards_stand.proofs.Store.{put-change}
 use Rattle.shards_stand.proofs.StorePieces.{stored_stands, same-marks}

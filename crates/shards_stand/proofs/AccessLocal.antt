@@ -1,5 +1,5 @@
 -- An access of what is held is the access of the whole machine.
-use Rattle.std.proofs.Common.{◌≡◌, ℕ, suc, ◌+◌, ◌-◌, ◌*◌, ◌/◌, ◌%◌, ◌<◌, ◌≤◌, Bool, true, false, ◌==◌, ◌&&◌, is_some, List, length, take, Option, Some, None, if◌then◌else◌, refl, sym, ap, subst, ◌∙◌, arith}
+use Rattle.std.proofs.Common.{◌≡◌, ℕ, suc, ◌+◌, ◌-◌, ◌/◌, ◌%◌, ◌<◌, ◌≤◌, Bool, true, false, ◌==◌, ◌&&◌, is_some, List, length, take, Option, Some, None, if◌then◌else◌, refl, sym, ap, subst, ◌∙◌, arith}
 use Rattle.std.proofs.lemmas.Bool.Decides.{nat_tests}
 use Rattle.std.proofs.lemmas.List.{length-take-le}
 use Rattle.page_ranges.specs.declared.rights.Rights.{Rights}
@@ -16,8 +16,8 @@ use Rattle.lx_machine.specs.Instruction.{filled}
 use Rattle.page_store.specs.Pages.{reads, writes}
 use Rattle.shards_stand.specs.Shards.{Parts, shard_at}
 use Rattle.shards_stand.specs.Kept.{is_mark, mark_in, marked}
-use Rattle.shards_stand.specs.Pieces.{touched, byte_on, page_lacking, lacking, bytes_in, store_in, store_all}
-use Rattle.shards_stand.specs.Accesses.{Accessed, answers, faults_at, accessed, load, store, store_exclusive, swap, has_mark, put_mark, IsFit}
+use Rattle.shards_stand.specs.Pieces.{touched, byte_on, lacking, bytes_in, store_in, store_all}
+use Rattle.shards_stand.specs.Accesses.{answers, accessed, load, store, store_exclusive, swap, has_mark, IsFit}
 use Rattle.shards_stand.specs.Holding.{HoldsPages, HoldsBytes, HoldsAccess, AreParts, IsLocal, IsAccessLocal}
 use Rattle.shards_stand.proofs.Local.{local-refl, change-local, stored-local, lacking-local, bytes-local}
 

@@ -1,7 +1,6 @@
 -- The clause holds of the first pages.
-use Rattle.std.proofs.Common.{◌≡◌, ◌≢◌, ℕ, zero, suc, ◌/◌, ◌%◌, ◌^◌, ◌<◌, ◌≤◌, Bool, true, false, List, [], ◌∷◌, length, replicate, get_or, Option, Some, None, option_map, if◌then◌else◌, refl, sym, ap, subst, ◌∙◌, arith, inl, inr}
+use Rattle.std.proofs.Common.{◌≡◌, ◌≢◌, ℕ, zero, suc, ◌/◌, ◌%◌, ◌<◌, Bool, true, false, List, [], ◌∷◌, replicate, get_or, Option, Some, None, option_map, if◌then◌else◌, refl, sym, ap, subst, ◌∙◌, arith, inl, inr}
 use Rattle.std.specs.FinMap as finite
-use Rattle.std.specs.Ordering.{nat_cmp}
 use Rattle.std.proofs.lemmas.Bool.{cases_eq}
 use Rattle.std.proofs.lemmas.List.{length-replicate}
 use Rattle.page_store.specs.Pages.{Page, Pages, page_if}
@@ -11,7 +10,7 @@ use Rattle.lx_memory.proofs.OnEach.{get-with_page_same, get-with_page_other}
 use Rattle.guest_mem.specs.Held.{Held}
 use Rattle.shards_stand.specs.Shards.{Parts, shard_at}
 use Rattle.shards_stand.specs.Kept.{kept, kept_in, mark_in, is_mark}
-use Rattle.shards_stand.specs.Clause.{PageStands, MemoryStands, MemorySound, IsShardOf, Stays}
+use Rattle.shards_stand.specs.Clause.{PageStands, IsShardOf, Stays}
 use Rattle.shards_stand.specs.Begin.{Numbered, with_page_laid, lay, pages_laid, AreStarted, HasFirst, AreFirst, IsCodeOf}
 use Rattle.shards_stand.proofs.Store.{page_or}
 use Rattle.shards_stand.proofs.Ranges.{change-same, change-other}

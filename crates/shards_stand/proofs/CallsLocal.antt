@@ -1,5 +1,5 @@
 -- A call on a range, where all shards are held, is that of the whole machine.
-use Rattle.std.proofs.Common.{◌≡◌, ℕ, zero, suc, ◌+◌, ◌-◌, ◌*◌, ◌%◌, ◌<◌, ◌≤◌, Bool, true, false, ◌&&◌, not, nat_le, nat_lt, is_some, List, Option, Some, None, Ok, if◌then◌else◌, refl, sym, ap, subst, ◌∙◌, arith}
+use Rattle.std.proofs.Common.{◌≡◌, ℕ, zero, suc, ◌-◌, ◌*◌, ◌%◌, ◌≤◌, Bool, true, false, ◌&&◌, not, nat_le, nat_lt, List, Option, Some, None, Ok, if◌then◌else◌, refl, sym, ap, subst, ◌∙◌, arith}
 use Rattle.page_ranges.specs.declared.rights.Rights.{Rights}
 use Rattle.vm_areas.specs.declared.runs.Area.{Area}
 use Rattle.vm_areas.specs.Painted.{painted}
@@ -8,11 +8,11 @@ use Rattle.guest_mem.specs.Held.{Held}
 use Rattle.guest_mem.specs.Held as held
 use Rattle.lx_machine.specs.Ranges.{pages_of, rights_asked}
 use Rattle.shards_stand.specs.Shards.{Parts, shard_at}
-use Rattle.shards_stand.specs.RangeChanges.{on_shards, each_page, each_kept, map_in_room, protect_in_room, unmap_pages, zero_pages, map_pages, protect_pages, room_in, has_room}
+use Rattle.shards_stand.specs.RangeChanges.{on_shards, each_page, each_kept, map_in_room, protect_in_room, map_pages, protect_pages, room_in, has_room}
 use Rattle.shards_stand.specs.SpaceRows as rows
 use Rattle.shards_stand.specs.SpaceRows.{SpaceParts, After, Refusal, have_code, are_mapped, are_free, fit, rights_fit, gap}
 use Rattle.shards_stand.specs.SpaceRows.Refusal.{NoAccess, NoMemory}
-use Rattle.shards_stand.specs.Holding.{HoldsPages, HoldsShards, AreParts, IsLocal, IsCallLocal}
+use Rattle.shards_stand.specs.Holding.{HoldsShards, AreParts, IsLocal, IsCallLocal}
 use Rattle.shards_stand.proofs.Local.{local-refl, shards-local, pages-local}
 
 module _ (h M : Parts) (parts : AreParts h M) (all : HoldsShards h) where

@@ -10,7 +10,7 @@ use Rattle.lx_memory.proofs.Stored.{bytes_at-is}
 use Rattle.lx_memory.specs.Bytes.{bytes_at, bytes_of_page}
 use Rattle.lx_memory.specs.declared.right.Right.TheVariants.{Execute}
 use Rattle.lx_memory.specs.Codes.{code_at}
-use Rattle.lx_memory.specs.Queries.{first_lacking, is_allowed}
+use Rattle.lx_memory.specs.Queries.{first_lacking}
 use Rattle.shards_stand.specs.Shards.{Parts}
 use Rattle.shards_stand.specs.Kept.{kept}
 use Rattle.shards_stand.specs.Clause.{MemoryStands, MemorySound, PageStands}

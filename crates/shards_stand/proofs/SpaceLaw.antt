@@ -7,7 +7,7 @@ use Rattle.std.proofs.lemmas.Bool.Decides.{nat_tests}
 use Rattle.vm_areas.specs.declared.runs.Area.{Area}
 use Rattle.page_ranges.specs.declared.rights.Rights.{Rights}
 use Rattle.page_ranges.specs.Ranges.{within}
-use Rattle.vm_areas.specs.PageMap.{rights_at, IsMaximal}
+use Rattle.vm_areas.specs.PageMap.{rights_at}
 use Rattle.vm_areas.specs.Painted.{painted, IsPainted, IsPaintedByAChange}
 use Rattle.page_store.specs.Pages.{Page, Pages, has_any, page_if}
 use Rattle.lx_memory.specs.Access.{has, allows}
@@ -16,9 +16,8 @@ use Rattle.lx_memory.specs.Ranges.{away, given, cleared, anew, mapped, unmapped,
 use Rattle.lx_memory.specs.Queries.{all_pages, all_mapped, all_free, any_executable, no_code, is_free, highest_gap, highest_gap_below}
 use Rattle.lx_memory.proofs.OnEach.{each-on_each}
 use Rattle.lx_memory.proofs.PageTests.{passes_each, passes_all}
-use Rattle.linux_abi.specs.declared.errno.LinuxErrno.{LinuxErrno}
 use Rattle.linux_abi.specs.declared.errno.LinuxErrno.TheVariants as errno
-use Rattle.lx_machine.specs.Calls.{argument, low_argument, answered}
+use Rattle.lx_machine.specs.Calls.{argument, low_argument}
 use Rattle.lx_machine.specs.declared.calls.LxCall.{LxCall}
 use Rattle.lx_machine.specs.declared.space.Space.{Space}
 use Rattle.lx_machine.specs.Ranges.{pages_of, rights_asked, space_answers, space_refuses, space_changes}
@@ -29,11 +28,10 @@ use Rattle.lx_machine.specs.Munmap as linux_munmap
 use Rattle.lx_machine.specs.Mprotect as linux_mprotect
 use Rattle.lx_machine.specs.Madvise as linux_madvise
 use Rattle.shards_stand.specs.Kept.{kept}
-use Rattle.shards_stand.specs.Clause.{PageStands, MemoryStands, MemorySound, AreasStand}
+use Rattle.shards_stand.specs.Clause.{PageStands, MemorySound, AreasStand}
 use Rattle.shards_stand.specs.RangeChanges.{unmap_pages, zero_pages, map_pages, protect_pages, has_room}
 use Rattle.shards_stand.specs.SpaceRows.Refusal.{NoAccess, NoMemory}
 use Rattle.shards_stand.specs.SpaceRows.{SpaceParts, After, Refusal, SpaceStands, CallStands, labelled, each_number, executes, are_mapped, are_free, have_code, gap, gap_below, fit, rights_fit}
-use Rattle.shards_stand.specs.SlotMarks.{wrote}
 use Rattle.shards_stand.proofs.SpaceCalls.{areas-after, unmap-stays, zero-stays, map-stays, protect-stays, raise-stays}
 use Rattle.shards_stand.specs.SpaceRows as rows
 

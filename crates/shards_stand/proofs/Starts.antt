@@ -1,23 +1,17 @@
 -- The pages of Start are first pages, and the first areas stand for them.
-use Rattle.std.proofs.Common.{◌≡◌, ◌≢◌, ℕ, zero, suc, ◌+◌, ◌-◌, ◌*◌, ◌/◌, ◌%◌, ◌^◌, ◌<◌, ◌≤◌, Bool, true, false, ◌||◌, max, List, [], ◌∷◌, length, set, replicate, get_or, Option, Some, None, option_map, if◌then◌else◌, refl, sym, ap, subst, ◌∙◌, arith, inl, inr}
-use Rattle.std.specs.Prelude.{IsTrue, All}
+use Rattle.std.proofs.Common.{◌≡◌, ℕ, zero, suc, ◌+◌, ◌-◌, ◌/◌, ◌%◌, ◌^◌, ◌≤◌, Bool, true, false, List, [], ◌∷◌, length, replicate, Option, Some, None, option_map, if◌then◌else◌, refl, sym, ap, ◌∙◌, arith, inl, inr}
 use Rattle.std.specs.List.{AllByRecursion}
 use Rattle.std.specs.FinMap as finite
 use Rattle.std.specs.Ordering.{nat_cmp}
-use Rattle.std.proofs.lemmas.Bool.{cases_eq, cases_lt}
-use Rattle.std.proofs.lemmas.Bool.Decides.{nat_tests}
-use Rattle.std.proofs.lemmas.List.{length-set, length-replicate}
+use Rattle.std.proofs.lemmas.Bool.{cases_eq}
+use Rattle.std.proofs.lemmas.List.{length-set}
 use Rattle.std.proofs.lemmas.List.Elements.{recursion_from_All}
 use Rattle.page_ranges.specs.declared.rights.Rights.{Rights}
 use Rattle.page_ranges.specs.Ranges.{within}
 use Rattle.vm_areas.specs.declared.runs.Area.{Area}
-use Rattle.vm_areas.specs.PageMap.{rights_at}
 use Rattle.vm_areas.specs.Painted.{painted, IsPaintedByAChange}
 use Rattle.page_store.specs.Pages.{Page, Pages, AreWhole, blank}
-use Rattle.lx_memory.specs.Access.{rights_of}
 use Rattle.lx_memory.specs.Bytes.{with_byte, with_byte_in, with_bytes}
-use Rattle.lx_memory.specs.Codes.{IsGuarded}
-use Rattle.lx_memory.specs.Space.{IsInSpace}
 use Rattle.lx_memory.specs.Ranges.{with_page, mapped, anew}
 use Rattle.lx_memory.proofs.OnEach.{each-on_each, each-in_space_below, get-with_page_same, get-with_page_other}
 use Rattle.lx_memory.proofs.Changes.{changed-with_page}
@@ -34,7 +28,7 @@ use Rattle.lx_machine.specs.declared.threads.LxThread.{LxThread}
 use Rattle.shards_stand.specs.Clause.{AreasStand, MemorySound}
 use Rattle.shards_stand.specs.SlotMarks.{marks_of}
 use Rattle.shards_stand.specs.SpaceRows.{SpaceStands}
-use Rattle.shards_stand.specs.Begin.{HasFirst, AreFirst, IsCodeOf, with_segment, with_segments, with_stack, with_return_page, first_areas, SegmentsFit, FirstFit, first_parts}
+use Rattle.shards_stand.specs.Begin.{HasFirst, AreFirst, IsCodeOf, with_segment, with_segments, with_stack, first_areas, SegmentsFit, FirstFit, first_parts}
 use Rattle.shards_stand.proofs.Store.{page_or}
 use Rattle.shards_stand.proofs.SpaceCalls.{areas-after, blank-length}
 use Rattle.shards_stand.proofs.Written.{areas-written}
@@ -170,14 +164,16 @@ module _ (law : IsPaintedByAChange) where
       → SpaceStands code (first_parts M image) (λ s. None) (marks_of (start image name arguments input seed rules).threads) (first_space image name arguments seed) × MemorySound code M
   starts code M image name arguments input seed rules laid few has is_code =
       let pages = first_pages image name arguments seed in
-      let first = begins code M pages has (first-pages image name arguments seed laid) is_code in
-      (record {
-        memory = record {
-          pages_stand = first.stands.pages_stand;
-          marks_stand = λ s. start-unmarked image name arguments input seed rules s;
-        };
-        areas_stand = areas-stand image name arguments seed laid few;
-        break_is = refl;
-        start_is = refl;
-        heap = λ p from below. absurd (omega arith);
-      }, first.sound)
+      let first = begins code M pages has (first-pages image name arguments seed laid) is_code in (
+        record {
+          memory = record {
+            pages_stand = first.stands.pages_stand;
+            marks_stand = λ s. start-unmarked image name arguments input seed rules s;
+          };
+          areas_stand = areas-stand image name arguments seed laid few;
+          break_is = refl;
+          start_is = refl;
+          heap = λ p from below. absurd (omega arith);
+        },
+        first.sound,
+      )

@@ -1,16 +1,15 @@
 -- The marks of the Linux threads, as the list of them has them, and what is kept where one of them changes.
-use Rattle.std.proofs.Common.{◌≡◌, ℕ, zero, suc, ◌+◌, ◌-◌, ◌/◌, ◌==◌, Bool, true, false, ◌≢◌, ◌<◌, List, [], ◌∷◌, length, Option, Some, None, if◌then◌else◌, refl, sym, ap, ◌∙◌, arith, inl, inr}
-use Rattle.std.specs.Prelude.{slice_set}
+use Rattle.std.proofs.Common.{◌≡◌, ℕ, zero, suc, ◌+◌, ◌-◌, ◌/◌, ◌==◌, Bool, true, false, ◌<◌, List, [], ◌∷◌, length, Option, Some, None, if◌then◌else◌, refl, sym, ap, ◌∙◌, arith, inl, inr}
 use Rattle.std.proofs.lemmas.Bool.{cases_eq}
 use Rattle.std.proofs.lemmas.Bool.Decides.{nat_tests}
 use Rattle.page_store.specs.Pages.{Pages}
-use Rattle.lx_machine.proofs.Places.{place-within, place-set_other, place-past}
+use Rattle.lx_machine.proofs.Places.{place-within, place-set_other}
 use Rattle.lx_machine.specs.Lists.{bind, at_place, with_place}
 use Rattle.lx_machine.specs.Threads.{mark_left, unmarked, unmarked_from, after_write}
 use Rattle.lx_machine.specs.declared.threads.LxThread.{LxThread}
 use Rattle.shards_stand.specs.Shards.{Parts}
 use Rattle.shards_stand.specs.Kept.{standing}
-use Rattle.shards_stand.specs.Clause.{MemoryStands, Stays}
+use Rattle.shards_stand.specs.Clause.{Stays}
 use Rattle.shards_stand.specs.SlotMarks.{marks_left, wrote, put, marks_of}
 
 abbrev mark_in : Option LxThread → Option ℕ

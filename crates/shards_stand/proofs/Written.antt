@@ -1,5 +1,5 @@
 -- A store leaves the rights of pages, so the areas stand for the pages after it.
-use Rattle.std.proofs.Common.{◌≡◌, ℕ, Bool, true, false, List, take, Option, Some, None, if◌then◌else◌, refl, sym, ◌∙◌}
+use Rattle.std.proofs.Common.{ℕ, Bool, true, false, List, take, Option, Some, None, if◌then◌else◌, sym, ◌∙◌}
 use Rattle.vm_areas.specs.declared.runs.Area.{Area}
 use Rattle.page_store.specs.Pages.{Pages}
 use Rattle.lx_memory.specs.Bytes.{with_bytes}

@@ -67,7 +67,8 @@ swap M s granule at len op value expected (Some lacks) = faults_at M granule lac
 swap M s granule at len op value expected None =
     let bytes = bytes_in M at len in
     let old = number_of bytes in
-    if has_outcome op old expected then answers (store_all M s at (bytes_of (outcome op old value) len)) granule (answer.Bytes (filled bytes))
+    if has_outcome op old expected
+    then answers (store_all M s at (bytes_of (outcome op old value) len)) granule (answer.Bytes (filled bytes))
     else answers M granule (answer.Bytes (filled bytes))
 
 -- the access of the thread in slot s, which keeps this granule

@@ -1,7 +1,7 @@
 -- The first pages: each is laid into its shard, at first empty, mapped with its rights, filled, and given its rights again.
 -- Source: execve(2), mmap(2); that a segment's pages without rights are kept, and that no page is both written and executed, is
 -- this project's own.
-use Rattle.std.specs.Prelude.{◌≡◌, ℕ, ◌*◌, ◌-◌, ◌/◌, ◌<◌, ◌≤◌, ◌^◌, true, false, List, [], ◌∷◌, length, Some, if◌then◌else◌}
+use Rattle.std.specs.Prelude.{◌≡◌, ℕ, ◌*◌, ◌-◌, ◌/◌, ◌<◌, ◌≤◌, false, List, [], ◌∷◌, length, Some}
 use Rattle.std.specs.FinMap as map
 use Rattle.places.specs.Places as place
 use Rattle.vm_areas.specs.declared.runs.Area.{Area}

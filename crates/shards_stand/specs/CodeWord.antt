@@ -8,4 +8,6 @@ use Rattle.page_store.specs.Pages.{Pages}
 
 -- the word at a multiple of 4; none where the page may not be executed
 abbrev pub code_word : Pages → ℕ → Option ℕ
-code_word code pc = option_map (λ page. place.number_of (slice_range page.bytes (pc % 4096) (pc % 4096 + 4))) (map.get code (place.page pc))
+code_word code pc =
+    let from = pc % 4096 in
+    option_map (λ page. place.number_of (slice_range page.bytes from (from + 4))) (map.get code (place.page pc))

@@ -17,7 +17,8 @@ HoldsBytes h at len = (a : ℕ) → at ≤ a → a < at + len → is_some (shard
 
 -- and it has that index
 abbrev pub AreIndexed : Parts → ℕ → ℕ → Type 0
-AreIndexed h at len = (a : ℕ) → at ≤ a → a < at + len → IfSome (shard_at h (a / 4096 % 16)) (λ shard. shard.index ≡ a / 4096 % 16)
+AreIndexed h at len =
+    (a : ℕ) → at ≤ a → a < at + len → IfSome (shard_at h (a / 4096 % 16)) (λ shard. shard.index ≡ a / 4096 % 16)
 
 -- each shard that is held is that of the machine
 abbrev pub AreParts : Parts → Parts → Type 0

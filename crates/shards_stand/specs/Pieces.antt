@@ -81,7 +81,9 @@ store_at M slot at bytes = change_shard M (place.shard (place.page at)) (stored_
 -- the slot stores bytes in a range that touches n pages, in each the part that lies there
 unfoldable pub store_in : ℕ → Parts → ℕ → ℕ → List ℕ → Parts
 store_in zero M slot at bytes = M
-store_in (suc n) M slot at bytes = store_in n (store_at M slot at (take (part at (length bytes)) bytes)) slot (at + part at (length bytes)) (drop (part at (length bytes)) bytes)
+store_in (suc n) M slot at bytes =
+    let here = part at (length bytes) in
+    store_in n (store_at M slot at (take here bytes)) slot (at + here) (drop here bytes)
 
 -- the slot stores bytes from an address on
 abbrev pub store_all : Parts → ℕ → ℕ → List ℕ → Parts

@@ -29,7 +29,8 @@ on_shards f M (suc n) = change_shard (on_shards f M n) n f
 -- each page of a range is changed in its shard
 unfoldable pub each_page : (Held → ℕ → Held) → Parts → ℕ → ℕ → Parts
 each_page change M first zero = M
-each_page change M first (suc count) = change_shard (each_page change M first count) (place.shard (first + count)) (λ h. change h (first + count))
+each_page change M first (suc count) =
+    change_shard (each_page change M first count) (place.shard (first + count)) (λ h. change h (first + count))
 
 -- a shard doesn't keep the page, and has no room for it
 abbrev pub is_full : Held → ℕ → Bool
@@ -58,7 +59,9 @@ map_pages M first count rights = if has_any rights then each_page (map_in_room r
 
 -- each page of a range has the rights: with none of them, kept pages alone change, and stay kept
 abbrev pub protect_pages : Parts → ℕ → ℕ → Rights → Parts
-protect_pages M first count rights = if has_any rights then each_page (protect_in_room rights) M first count else on_shards (λ h. each_kept (λ g p. protected g p rights) h first count) M 16
+protect_pages M first count rights =
+    if has_any rights then each_page (protect_in_room rights) M first count
+    else on_shards (λ h. each_kept (λ g p. protected g p rights) h first count) M 16
 
 -- ---- room
 
@@ -68,7 +71,8 @@ ones b = if b then 1 else 0
 -- how many pages of a range lie in the shard of this index and are not kept there
 unfoldable pub needed : Held → ℕ → ℕ → ℕ → ℕ
 needed h i first zero = 0
-needed h i first (suc count) = needed h i first count + ones (place.shard (first + count) == i && not (map.contains_key h.pages (first + count)))
+needed h i first (suc count) =
+    needed h i first count + ones (place.shard (first + count) == i && not (map.contains_key h.pages (first + count)))
 
 abbrev pub room_in : Option Held → ℕ → ℕ → ℕ → Bool
 room_in None i first count = true

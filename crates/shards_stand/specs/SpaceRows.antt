@@ -62,7 +62,8 @@ have_code areas first count = not (each_number (λ p. not (executes (rights_at a
 -- the greatest first page, below this one and not below `low`, of so many free pages, if there is one
 abbrev pub gap_below : List Area → ℕ → ℕ → ℕ → Option ℕ
 gap_below areas count low zero = None
-gap_below areas count low (suc first) = if nat_le low first && are_free areas first count then Some first else gap_below areas count low first
+gap_below areas count low (suc first) =
+    if nat_le low first && are_free areas first count then Some first else gap_below areas count low first
 
 -- the same among the ranges that end at or below `high`
 abbrev pub gap : List Area → ℕ → ℕ → ℕ → Option ℕ
@@ -85,13 +86,17 @@ stays G n short = record { space = G; answer = Ok n; short = short }
 abbrev pub refuses : SpaceParts → Refusal → Bool → After
 refuses G e short = record { space = G; answer = Err e; short = short }
 
+-- the parts, the areas and the break are these, and the call answers a number
+abbrev pub changes : SpaceParts → Parts → List Area → ℕ → ℕ → After
+changes G M areas at n = record { space = record G { parts = M; areas = areas; break_at = at }; answer = Ok n; short = false }
+
 -- ---- the calls, on the pages from `first` on
 
 abbrev pub munmap : SpaceParts → ℕ → ℕ → After
 munmap G first count =
     if have_code G.areas first count then refuses G NoAccess false else (
     if fit (painted G.areas first count None)
-    then record { space = record G { parts = unmap_pages G.parts first count; areas = painted G.areas first count None }; answer = Ok 0; short = false }
+    then changes G (unmap_pages G.parts first count) (painted G.areas first count None) G.break_at 0
     else refuses G NoMemory true)
 
 abbrev pub mprotect : SpaceParts → ℕ → ℕ → Rights → After
@@ -99,14 +104,14 @@ mprotect G first count rights =
     if not (are_mapped G.areas first count) then refuses G NoMemory false else (
     if have_code G.areas first count then refuses G NoAccess false else (
     if fit (painted G.areas first count (Some rights)) && rights_fit rights G.parts first count
-    then record { space = record G { parts = protect_pages G.parts first count rights; areas = painted G.areas first count (Some rights) }; answer = Ok 0; short = false }
+    then changes G (protect_pages G.parts first count rights) (painted G.areas first count (Some rights)) G.break_at 0
     else refuses G NoMemory true))
 
 -- a mapping is made, whatever was there
 abbrev pub map_at : SpaceParts → ℕ → ℕ → Rights → After
 map_at G first count rights =
     if fit (painted G.areas first count (Some rights)) && rights_fit rights G.parts first count
-    then record { space = record G { parts = map_pages G.parts first count rights; areas = painted G.areas first count (Some rights) }; answer = Ok (first * 4096); short = false }
+    then changes G (map_pages G.parts first count rights) (painted G.areas first count (Some rights)) G.break_at (first * 4096)
     else refuses G NoMemory true
 
 -- with MAP_FIXED, unless code is there
@@ -131,7 +136,7 @@ madvise G zeroes first count =
     if not (are_mapped G.areas first count) then refuses G NoMemory false else (
     if not zeroes then stays G 0 false else (
     if have_code G.areas first count then refuses G NoAccess false
-    else record { space = record G { parts = zero_pages G.parts first count }; answer = Ok 0; short = false }))
+    else changes G (zero_pages G.parts first count) G.areas G.break_at 0))
 
 -- the break moves up where the pages that it gets are free
 abbrev pub raise : SpaceParts → ℕ → After
@@ -140,7 +145,7 @@ raise G at =
     let count = pages_of at - first in
     if are_free G.areas first count then (
     if fit (painted G.areas first count (Some (rights_asked 3))) && has_room G.parts first count 16
-    then record { space = record G { parts = map_pages G.parts first count (rights_asked 3); areas = painted G.areas first count (Some (rights_asked 3)); break_at = at }; answer = Ok at; short = false }
+    then changes G (map_pages G.parts first count (rights_asked 3)) (painted G.areas first count (Some (rights_asked 3))) at at
     else stays G G.break_at true)
     else stays G G.break_at false
 
@@ -150,7 +155,7 @@ lower G at =
     let first = pages_of at in
     let count = pages_of G.break_at - first in
     if fit (painted G.areas first count None)
-    then record { space = record G { parts = unmap_pages G.parts first count; areas = painted G.areas first count None; break_at = at }; answer = Ok at; short = false }
+    then changes G (unmap_pages G.parts first count) (painted G.areas first count None) at at
     else stays G G.break_at true
 
 abbrev pub brk : SpaceParts → ℕ → After
@@ -184,7 +189,8 @@ labelled m short effect = if m.short then short else effect
 
 -- a call of the thread in a slot: its answer is the Linux one, what it leaves stands for what the Linux call leaves, and the pages
 -- that it gave up or made zeros count as written by the slot
-pub record CallStands (code : Pages) (slot : ℕ) (granules marks : ℕ → Option ℕ) (c : LxCall) (m : After) (o : SpaceOutcome) : Type 0 where
+pub record CallStands (code : Pages) (slot : ℕ) (granules marks : ℕ → Option ℕ)
+    (c : LxCall) (m : After) (o : SpaceOutcome) : Type 0 where
   pub call_is : o.call ≡ with_answer c m.answer
   pub space_stands : SpaceStands code m.space granules (wrote slot (o.first * 4096) (o.count * 4096) marks) o.space
   pub sound : MemorySound code m.space.parts
