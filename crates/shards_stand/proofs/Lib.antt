@@ -16,4 +16,5 @@ pub mod Local
 pub mod AccessLocal
 pub mod CallsLocal
 pub mod Written
+pub mod FewAreas
 pub mod Starts

@@ -1,5 +1,5 @@
 -- The pages of Start are first pages, and the first areas stand for them.
-use Rattle.std.proofs.Common.{◌≡◌, ℕ, zero, suc, ◌+◌, ◌-◌, ◌/◌, ◌%◌, ◌^◌, ◌≤◌, Bool, true, false, List, [], ◌∷◌, length, replicate, Option, Some, None, option_map, if◌then◌else◌, refl, sym, ap, ◌∙◌, arith, inl, inr}
+use Rattle.std.proofs.Common.{◌≡◌, ℕ, zero, suc, ◌+◌, ◌-◌, ◌*◌, ◌/◌, ◌%◌, ◌^◌, ◌≤◌, Bool, true, false, List, [], ◌∷◌, length, replicate, Option, Some, None, option_map, if◌then◌else◌, refl, sym, ap, ◌∙◌, arith, inl, inr}
 use Rattle.std.specs.List.{AllByRecursion}
 use Rattle.std.specs.FinMap as finite
 use Rattle.std.specs.Ordering.{nat_cmp}
@@ -9,6 +9,7 @@ use Rattle.std.proofs.lemmas.List.Elements.{recursion_from_All}
 use Rattle.page_ranges.specs.declared.rights.Rights.{Rights}
 use Rattle.page_ranges.specs.Ranges.{within}
 use Rattle.vm_areas.specs.declared.runs.Area.{Area}
+use Rattle.vm_areas.specs.PageMap.{IsMaximal}
 use Rattle.vm_areas.specs.Painted.{painted, IsPaintedByAChange}
 use Rattle.page_store.specs.Pages.{Page, Pages, AreWhole, blank}
 use Rattle.lx_memory.specs.Bytes.{with_byte, with_byte_in, with_bytes}
@@ -32,6 +33,7 @@ use Rattle.shards_stand.specs.Begin.{HasFirst, AreFirst, IsCodeOf, with_segment,
 use Rattle.shards_stand.proofs.Store.{page_or}
 use Rattle.shards_stand.proofs.SpaceCalls.{areas-after, blank-length}
 use Rattle.shards_stand.proofs.Written.{areas-written}
+use Rattle.shards_stand.proofs.FewAreas.{painted-few}
 use Rattle.shards_stand.proofs.Begins.{begins}
 
 -- ---- first pages stay so
@@ -141,6 +143,31 @@ module _ (law : IsPaintedByAChange) where
       (areas-written (with_segment areas s) (mapped pages (first_page s) (end_page s - first_page s) (linux.rights_of s)) s.at s.bytes
       (area-mapped areas pages (first_page s) (end_page s - first_page s) (linux.rights_of s) (segment-space s placed.0) few.0 st))
 
+  -- each segment makes at most two areas more
+  segments-few : (ss : List Segment) (areas : List Area) → AllByRecursion IsPlaced ss → IsMaximal areas → length areas + 2 * length ss ≤ 1024 → SegmentsFit areas ss × IsMaximal (with_segments areas ss) × (length (with_segments areas ss) ≤ length areas + 2 * length ss)
+  segments-few [] areas placed maximal few = (tt, maximal, omega arith)
+  segments-few (s ∷ ss) areas placed maximal few =
+      let first = first_page s in
+      let count = end_page s - first_page s in
+      let rights = linux.rights_of s in
+      let one = painted-few areas first count (Some rights) maximal in
+      let new = law areas first count (Some rights) maximal (omega (arith, segment-space s placed.0)) in
+      let rest = segments-few ss (with_segment areas s) placed.1 new.maximal (omega (arith, one)) in
+      ((omega (arith, one), rest.0), rest.1, omega (arith, one, rest.2))
+
+  -- an accepted image has at most 64 segments
+  first-fit : (image : Image) → IsLaidOut image → length image.segments ≤ 64 → FirstFit image
+  first-fit image laid few =
+      let segments = segments-few image.segments [] (recursion_from_All IsPlaced image.segments laid.placed) tt (omega arith) in
+      let stack = law (with_segments [] image.segments) (stack_end / 4096 - 64) 64 (Some stack_rights) segments.1 (omega arith) in
+      let stack_few = painted-few (with_segments [] image.segments) (stack_end / 4096 - 64) 64 (Some stack_rights) segments.1 in
+      let page_few = painted-few (with_stack (with_segments [] image.segments)) (stack_end / 4096) 1 (Some code_rights) stack.maximal in
+      record {
+        segments = segments.0;
+        stack = omega (arith, segments.2, stack_few);
+        return_page = omega (arith, segments.2, stack_few, page_few);
+      }
+
   areas-stand : (image : Image) (name : List ℕ) (arguments : List (List ℕ)) (seed : ℕ) → IsLaidOut image → FirstFit image → AreasStand (first_areas image) (first_pages image name arguments seed)
   areas-stand image name arguments seed laid few =
       let placed = recursion_from_All IsPlaced image.segments laid.placed in
@@ -160,7 +187,7 @@ module _ (law : IsPaintedByAChange) where
   start-unmarked image name arguments input seed rules (suc k) = none-there k 127
 
   -- the clauses hold of Start, where the shards keep exactly its pages
-  pub starts : (code : Pages) (M : Parts) (image : Image) (name : List ℕ) (arguments : List (List ℕ)) (input : List ℕ) (seed rules : ℕ) → IsLaidOut image → FirstFit image → HasFirst M (first_pages image name arguments seed) → IsCodeOf code (first_pages image name arguments seed)
+  pub starts : (code : Pages) (M : Parts) (image : Image) (name : List ℕ) (arguments : List (List ℕ)) (input : List ℕ) (seed rules : ℕ) → IsLaidOut image → length image.segments ≤ 64 → HasFirst M (first_pages image name arguments seed) → IsCodeOf code (first_pages image name arguments seed)
       → SpaceStands code (first_parts M image) (λ s. None) (marks_of (start image name arguments input seed rules).threads) (first_space image name arguments seed) × MemorySound code M
   starts code M image name arguments input seed rules laid few has is_code =
       let pages = first_pages image name arguments seed in
@@ -170,7 +197,7 @@ module _ (law : IsPaintedByAChange) where
             pages_stand = first.stands.pages_stand;
             marks_stand = λ s. start-unmarked image name arguments input seed rules s;
           };
-          areas_stand = areas-stand image name arguments seed laid few;
+          areas_stand = areas-stand image name arguments seed laid (first-fit image laid few);
           break_is = refl;
           start_is = refl;
           heap = λ p from below. absurd (omega arith);
