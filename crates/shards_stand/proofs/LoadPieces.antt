@@ -9,6 +9,7 @@ use Rattle.lx_memory.specs.Access.{has, lacks, allows, IsFirstPageWithout, IsFir
 use Rattle.lx_memory.specs.declared.right.Right.{Right}
 use Rattle.lx_memory.specs.Queries.{first_lacking}
 use Rattle.lx_memory.specs.Bytes.{byte_at, bytes_at, bytes_of_page}
+use Rattle.places.specs.PageRanges.{page_count}
 use Rattle.lx_memory.proofs.Lacking.{same_first_lacking}
 use Rattle.lx_memory.specs.declared.right.Right.TheVariants.{Read, Write, Execute}
 use Rattle.shards_stand.specs.Shards.{Parts}
@@ -158,3 +159,14 @@ bytes-same (suc len) right M granules marks pages at st have =
     let page_is : finite.get pages (at / 4096) ≡ kept M (at / 4096) = same-page right (kept M (at / 4096)) (finite.get pages (at / 4096)) may (st.pages_stand (at / 4096)) in
     let here : byte_in M at ≡ byte_at pages at = ap (λ (o : Option Page). get_or (bytes_of_page o) (at % 4096) 0) (sym page_is) in
     ap (λ (b : ℕ). b ∷ bytes_in M (at + 1) len) here ∙ ap (λ (l : List ℕ). byte_at pages at ∷ l) (bytes-same len right M granules marks pages (at + 1) st (λ p from below. have p (omega arith) (omega arith)))
+
+-- ---- how many pages a range touches
+
+-- the pages from that of the first byte to that of the last
+pub touched-is : (at len : ℕ) → 0 < len → touched at len ≡ page_count at len
+touched-is at zero some = absurd (omega arith)
+touched-is at (suc rest) some = omega arith
+
+-- an access of an instruction touches two at most, also one of 32 bytes
+pub touched-few : (at len : ℕ) → len ≤ 32 → touched at len ≤ 2
+touched-few at len few = omega arith
