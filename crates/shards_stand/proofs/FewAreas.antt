@@ -1,14 +1,11 @@
 -- A change of a range makes at most two areas more, so an image of at most 64 segments starts with few.
-use Rattle.std.proofs.Common.{◌≡◌, ℕ, ◌+◌, ◌-◌, ◌*◌, ◌/◌, ◌^◌, ◌<◌, ◌≤◌, Bool, true, false, ◌==◌, min, max, List, [], ◌∷◌, ◌++◌, map, length, Option, Some, None, if◌then◌else◌, refl, sym, ap, subst, ◌∙◌, arith, inl, inr}
+use Rattle.std.proofs.Common.{◌≡◌, ℕ, ◌+◌, ◌^◌, ◌≤◌, Bool, true, false, ◌==◌, List, [], ◌∷◌, ◌++◌, map, length, Option, Some, None, if◌then◌else◌, refl, ap, arith, inl, inr}
 use Rattle.std.proofs.lemmas.Bool.{cases_lt}
-use Rattle.std.proofs.lemmas.Bool.Decides.{nat_tests}
 use Rattle.std.proofs.lemmas.List.{length-map}
-use Rattle.std.specs.List.{AllByRecursion}
-use Rattle.std.proofs.lemmas.List.Elements.{recursion_from_All}
 use Rattle.page_ranges.specs.declared.rights.Rights.{Rights}
 use Rattle.vm_areas.specs.declared.runs.Area.{Area}
 use Rattle.vm_areas.specs.PageMap.{end_of, IsApart, IsMaximal}
-use Rattle.vm_areas.specs.Painted.{clipped, touches, grown, joined_to, join, joined, range_of, painted, IsPaintedByAChange}
+use Rattle.vm_areas.specs.Painted.{clipped, touches, grown, joined_to, join, joined, range_of, painted}
 
 -- the pieces that are not empty
 abbrev one_if_some : Area → ℕ

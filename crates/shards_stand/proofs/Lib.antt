@@ -18,3 +18,4 @@ pub mod CallsLocal
 pub mod Written
 pub mod FewAreas
 pub mod Starts
+pub mod ByShards
