@@ -5,6 +5,7 @@ pub mod LoadPieces
 pub mod CodeFetch
 pub mod Threads
 pub mod PieceLaw
+pub mod WordLaw
 pub mod Shardwise
 pub mod Ranges
 pub mod SpaceCalls

@@ -72,13 +72,13 @@ code-at None = refl
 code-at (Some page) = refl
 
 module _ (areas : List Area) (pages : Pages) (st : AreasStand areas pages) where
-  mapped-same : (first count : ℕ) → all_mapped pages first count ≡ are_mapped areas first count
+  pub mapped-same : (first count : ℕ) → all_mapped pages first count ≡ are_mapped areas first count
   mapped-same first count = pages-numbers is_some (λ p. is_some (rights_at areas p)) pages first count (λ p. mapped-at (finite.get pages p) ∙ ap (λ (o : Option Rights). is_some o) (sym (st.rights_are p)))
 
-  free-same : (first count : ℕ) → all_free pages first count ≡ are_free areas first count
+  pub free-same : (first count : ℕ) → all_free pages first count ≡ are_free areas first count
   free-same first count = pages-numbers is_free (λ p. not (is_some (rights_at areas p))) pages first count (λ p. ap not (mapped-at (finite.get pages p) ∙ ap (λ (o : Option Rights). is_some o) (sym (st.rights_are p))))
 
-  code-same : (first count : ℕ) → any_executable pages first count ≡ have_code areas first count
+  pub code-same : (first count : ℕ) → any_executable pages first count ≡ have_code areas first count
   code-same first count = ap not (pages-numbers no_code (λ p. not (executes (rights_at areas p))) pages first count (λ p. ap not (code-at (finite.get pages p) ∙ ap executes (sym (st.rights_are p)))))
 
   gap-below-same : (count low first : ℕ) → highest_gap_below pages count low first ≡ gap_below areas count low first
@@ -87,7 +87,7 @@ module _ (areas : List Area) (pages : Pages) (st : AreasStand areas pages) where
       ap (λ (b : Bool). if nat_le low first && b then Some first else highest_gap_below pages count low first) (free-same first count)
       ∙ ap (λ (o : Option ℕ). if nat_le low first && are_free areas first count then Some first else o) (gap-below-same count low first)
 
-  gap-same : (count low high : ℕ) → highest_gap pages count low high ≡ gap areas count low high
+  pub gap-same : (count low high : ℕ) → highest_gap pages count low high ≡ gap areas count low high
   gap-same count low high = ap (λ (o : Option ℕ). if nat_le count high then o else None) (gap-below-same count low (suc (high - count)))
 
 -- a free range that is found

@@ -5,6 +5,7 @@ pub mod Pieces
 pub mod SlotMarks
 pub mod Accesses
 pub mod CodeWord
+pub mod Words
 pub mod RangeChanges
 pub mod SpaceRows
 pub mod Begin
