@@ -80,3 +80,12 @@ fetch-same code M granules marks pages pc st sound aligned small =
         ap (option_map (λ page. place.number_of (slice_range page.bytes (pc % 4096) (pc % 4096 + 4)))) is
         ∙ ap {B = Option ℕ} (λ (bs : List ℕ). Some (place.number_of bs)) bytes_are
         ∙ sym (ap (λ (o : Option ℕ). if not (is_some o) then Some (place.number_of (bytes_at pages pc 4)) else None) (lack ∙ ap (λ (o : Option Page). byte_on pc (if is_some o then None else Some (pc / 4096))) is))
+
+-- the fixed code is exactly the Linux pages with the right to execute, with their bytes
+pub code-linux : (code : Pages) (M : Parts) (granules marks : ℕ → Option ℕ) (pages : Pages) (p : ℕ) → MemoryStands M granules pages marks → MemorySound code M → finite.get code p ≡ page_if (allows Execute) (finite.get pages p)
+code-linux code M granules marks pages p st sound = sound.code_is p ∙ by (kept M p) (finite.get pages p) (st.pages_stand p)
+  where
+    by : (k o : Option Page) → PageStands k o → page_if (allows Execute) k ≡ page_if (allows Execute) o
+    by None None stands = refl
+    by None (Some page) stands = ap (λ (x : Page). page_if (allows Execute) (Some x)) (sym stands)
+    by (Some page) o stands = ap (λ (x : Option Page). page_if (allows Execute) x) (sym stands)

@@ -30,9 +30,11 @@ pub record Accessed : Type 0 where
   pub granule : Option ℕ
   pub answer : Answer
 
+-- memory answers so, and this is left
 abbrev pub answers : Parts → Option ℕ → Answer → Accessed
 answers M granule a = record { parts = M; granule = granule; answer = a }
 
+-- the access lacks its right at an address, and nothing changes
 abbrev pub faults_at : Parts → Option ℕ → ℕ → Accessed
 faults_at M granule at = answers M granule (answer.Fault (record { address = at }))
 
@@ -46,6 +48,7 @@ load M s granule at len marks (Some lacks) = faults_at M granule lacks
 load M s granule at len true None = answers (put_mark M s at) (Some (place.granule at)) (answer.Bytes (filled (bytes_in M at len)))
 load M s granule at len false None = answers M granule (answer.Bytes (filled (bytes_in M at len)))
 
+-- a store
 abbrev pub store : Parts → ℕ → Option ℕ → ℕ → List ℕ → Option ℕ → Accessed
 store M s granule at bytes (Some lacks) = faults_at M granule lacks
 store M s granule at bytes None = answers (store_all M s at bytes) granule answer.Done
@@ -99,6 +102,7 @@ IsFit (access.Store at len bytes exclusive) = (0 < len) × (len ≤ length bytes
 IsFit (access.Swap at len op value expected) = (0 < len) × (at < 2 ^ 64) × (at % 4096 + len ≤ 4096)
 IsFit access.ClearMark = Unit {0}
 
+-- what an instruction asks is fit, where alignment doesn't refuse it
 abbrev pub AsksFit : Result Access Next → Type 0
 AsksFit (Ok a) = IsFit a
 AsksFit (Err n) = Unit {0}

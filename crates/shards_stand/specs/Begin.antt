@@ -65,27 +65,33 @@ IsCodeOf code pages = (p : ℕ) → map.get code p ≡ page_if (allows Execute) 
 
 -- ---- the first areas: those of the segments, of the stack, and of the page above it
 
+-- a segment's pages are mapped
 abbrev pub with_segment : List Area → Segment → List Area
 with_segment areas s = painted areas (first_page s) (end_page s - first_page s) (Some (rights_of s))
 
+-- those of each segment are
 abbrev pub with_segments : List Area → List Segment → List Area
 with_segments areas [] = areas
 with_segments areas (s ∷ ss) = with_segments (with_segment areas s) ss
 
+-- the stack's 64 pages are
 abbrev pub with_stack : List Area → List Area
 with_stack areas = painted areas (stack_end / 4096 - 64) 64 (Some stack_rights)
 
+-- the page above it is
 abbrev pub with_return_page : List Area → List Area
 with_return_page areas = painted areas (stack_end / 4096) 1 (Some code_rights)
 
+-- the areas of Start
 abbrev pub first_areas : Image → List Area
 first_areas image = with_return_page (with_stack (with_segments [] image.segments))
 
--- they are no more than an address space holds, at each of them
+-- at each segment they are no more than an address space holds
 abbrev pub SegmentsFit : List Area → List Segment → Type 0
 SegmentsFit areas [] = Unit {0}
 SegmentsFit areas (s ∷ ss) = (length (with_segment areas s) ≤ 1024) × SegmentsFit (with_segment areas s) ss
 
+-- so the areas of Start fit, one after the other
 pub record FirstFit (image : Image) : Type 0 where
   pub segments : SegmentsFit [] image.segments
   pub stack : length (with_stack (with_segments [] image.segments)) ≤ 1024

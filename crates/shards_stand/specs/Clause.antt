@@ -16,6 +16,7 @@ use Rattle.shards_stand.specs.Kept.{kept, marked, standing}
 
 -- ---- shards and Linux pages
 
+-- no right at all
 abbrev pub no_rights : Rights
 no_rights = record { read = false; write = false; execute = false }
 

@@ -45,10 +45,11 @@ pub record IsAccessLocal (h M : Parts) (a b : Accessed) : Type 0 where
   pub granule_is : a.granule ≡ b.granule
   pub answer_is : a.answer ≡ b.answer
 
--- a call on a range, where all shards are held, is that of the machine
+-- all shards are held
 abbrev pub HoldsShards : Parts → Type 0
 HoldsShards h = (i : ℕ) → i < 16 → is_some (shard_at h i) ≡ true
 
+-- a call on a range of what is held is that of the machine
 pub record IsCallLocal (h M : Parts) (a b : After) : Type 0 where
   pub parts_are : IsLocal h M a.space.parts b.space.parts
   pub areas_are : a.space.areas ≡ b.space.areas

@@ -22,6 +22,7 @@ abbrev pub mark_in : Option Held → ℕ → Option ℕ
 mark_in None s = None
 mark_in (Some h) s = slice_index_or h.marks s None
 
+-- the mark is on this granule
 abbrev pub is_mark : Option ℕ → ℕ → Bool
 is_mark None g = false
 is_mark (Some k) g = k == g

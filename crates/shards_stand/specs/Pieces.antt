@@ -48,21 +48,23 @@ AllHave right M at len = (p : ℕ) → at / 4096 ≤ p → p * 4096 < at + len �
 
 -- ---- bytes
 
--- the byte at an address, and so many bytes from an address on
+-- the byte at an address
 abbrev pub byte_in : Parts → ℕ → ℕ
 byte_in M address = slice_index (bytes_of_page (kept M (place.page address))) (address % 4096)
 
+-- so many bytes from an address on
 unfoldable pub bytes_in : Parts → ℕ → ℕ → List ℕ
 bytes_in M at zero = []
 bytes_in M at (suc len) = byte_in M at ∷ bytes_in M (at + 1) len
 
 -- ---- stores
 
--- the shard of an index becomes this of what it was, if it is there
+-- a shard becomes this of what it was, if it is there
 abbrev pub changed_shard : Option Held → Parts → ℕ → (Held → Held) → Parts
 changed_shard None M i f = M
 changed_shard (Some h) M i f = put_shard M i (f h)
 
+-- the shard of an index does
 abbrev pub change_shard : Parts → ℕ → (Held → Held) → Parts
 change_shard M i f = changed_shard (shard_at M i) M i f
 
@@ -71,6 +73,7 @@ abbrev pub where_page : Option Page → Held → Held → Held
 where_page None before after = before
 where_page (Some page) before after = after
 
+-- a shard where the slot stores bytes in one page, if it may be written
 abbrev pub stored_where : ℕ → ℕ → List ℕ → Held → Held
 stored_where slot at bytes h = where_page (page_for writes h.pages at) h (stored h slot at bytes)
 

@@ -36,10 +36,11 @@ each_page change M first (suc count) =
 abbrev pub is_full : Held → ℕ → Bool
 is_full h p = not (map.contains_key h.pages p) && h.spare == 0
 
--- a page is mapped, or gets its rights, where there is room
+-- a page is mapped, where there is room
 abbrev pub map_in_room : Rights → Held → ℕ → Held
 map_in_room rights h p = if is_full h p then h else mapped h p rights
 
+-- a page gets its rights, where there is room
 abbrev pub protect_in_room : Rights → Held → ℕ → Held
 protect_in_room rights h p = if is_full h p then h else protected h p rights
 
@@ -65,6 +66,7 @@ protect_pages M first count rights =
 
 -- ---- room
 
+-- 1 where the test holds
 abbrev pub ones : Bool → ℕ
 ones b = if b then 1 else 0
 
@@ -74,6 +76,7 @@ needed h i first zero = 0
 needed h i first (suc count) =
     needed h i first count + ones (place.shard (first + count) == i && not (map.contains_key h.pages (first + count)))
 
+-- the shard of this index has room for all pages of a range that lie in it
 abbrev pub room_in : Option Held → ℕ → ℕ → ℕ → Bool
 room_in None i first count = true
 room_in (Some h) i first count = nat_le (needed h i first count) h.spare

@@ -45,17 +45,20 @@ unfoldable pub each_number : (ℕ → Bool) → ℕ → ℕ → Bool
 each_number test first zero = true
 each_number test first (suc count) = test first && each_number test (suc first) count
 
+-- the page is mapped with the right to execute
 abbrev pub executes : Option Rights → Bool
 executes None = false
 executes (Some rights) = rights.execute
 
--- each page of a range is mapped; none is; some page may be executed
+-- each page of a range is mapped
 abbrev pub are_mapped : List Area → ℕ → ℕ → Bool
 are_mapped areas first count = each_number (λ p. is_some (rights_at areas p)) first count
 
+-- no page of it is mapped
 abbrev pub are_free : List Area → ℕ → ℕ → Bool
 are_free areas first count = each_number (λ p. not (is_some (rights_at areas p))) first count
 
+-- some page of it may be executed
 abbrev pub have_code : List Area → ℕ → ℕ → Bool
 have_code areas first count = not (each_number (λ p. not (executes (rights_at areas p))) first count)
 
@@ -79,10 +82,11 @@ rights_fit rights M first count = if has_any rights then has_room M first count 
 
 -- ---- how a call ends
 
--- the call answers a number, or is refused, and nothing changes
+-- the call answers a number, and nothing changes
 abbrev pub stays : SpaceParts → ℕ → Bool → After
 stays G n short = record { space = G; answer = Ok n; short = short }
 
+-- the call is refused, and nothing changes
 abbrev pub refuses : SpaceParts → Refusal → Bool → After
 refuses G e short = record { space = G; answer = Err e; short = short }
 
@@ -92,6 +96,7 @@ changes G M areas at n = record { space = record G { parts = M; areas = areas; b
 
 -- ---- the calls, on the pages from `first` on
 
+-- munmap(2)
 abbrev pub munmap : SpaceParts → ℕ → ℕ → After
 munmap G first count =
     if have_code G.areas first count then refuses G NoAccess false else (
@@ -99,6 +104,7 @@ munmap G first count =
     then changes G (unmap_pages G.parts first count) (painted G.areas first count None) G.break_at 0
     else refuses G NoMemory true)
 
+-- mprotect(2)
 abbrev pub mprotect : SpaceParts → ℕ → ℕ → Rights → After
 mprotect G first count rights =
     if not (are_mapped G.areas first count) then refuses G NoMemory false else (
@@ -127,10 +133,11 @@ map_in G count rights None = refuses G NoMemory false
 abbrev pub map_free : SpaceParts → ℕ → Rights → After
 map_free G count rights = map_in G count rights (gap G.areas count 16 0x7fff00000)
 
+-- mmap(2)
 abbrev pub mmap : SpaceParts → Bool → ℕ → ℕ → Rights → After
 mmap G fixed first count rights = if fixed then map_fixed G first count rights else map_free G count rights
 
--- `zeroes`: the advice is MADV_DONTNEED; no other does anything
+-- madvise(2). `zeroes`: the advice is MADV_DONTNEED; no other does anything
 abbrev pub madvise : SpaceParts → Bool → ℕ → ℕ → After
 madvise G zeroes first count =
     if not (are_mapped G.areas first count) then refuses G NoMemory false else (
@@ -158,6 +165,7 @@ lower G at =
     then changes G (unmap_pages G.parts first count) (painted G.areas first count None) at at
     else stays G G.break_at true
 
+-- brk(2): below its start the break stays
 abbrev pub brk : SpaceParts → ℕ → After
 brk G at =
     if nat_lt at G.break_start then stays G G.break_at false else (

@@ -18,13 +18,15 @@ use Rattle.shards_stand.specs.Pieces.{bytes_in, may_copy}
 abbrev pub word_in : Parts → ℕ → ℕ
 word_in M at = number_at (bytes_in M at 4) 0 4
 
--- the word, if it may be read; if it may be written; if it may be both
+-- the word, if it may be read
 abbrev pub readable_word_in : Parts → ℕ → Option ℕ
 readable_word_in M at = if may_copy Read M at 4 then Some (word_in M at) else None
 
+-- the word, if it may be written
 abbrev pub writable_word_in : Parts → ℕ → Option ℕ
 writable_word_in M at = if may_copy Write M at 4 then Some (word_in M at) else None
 
+-- the word, if it may be read and written
 abbrev pub lock_word_in : Parts → ℕ → Option ℕ
 lock_word_in M at = if may_copy Read M at 4 && may_copy Write M at 4 then Some (word_in M at) else None
 
