@@ -1,10 +1,10 @@
 -- The marks of the Linux threads, as the list of them has them, and what is kept where one of them changes.
-use Rattle.std.proofs.Common.{◌≡◌, ℕ, zero, suc, ◌+◌, ◌-◌, ◌/◌, ◌==◌, Bool, true, false, ◌<◌, List, [], ◌∷◌, length, Option, Some, None, if◌then◌else◌, refl, sym, ap, ◌∙◌, arith, inl, inr}
+use Rattle.std.proofs.Common.{◌≡◌, ℕ, zero, suc, ◌+◌, ◌-◌, ◌/◌, ◌==◌, Bool, true, false, ◌<◌, List, [], ◌∷◌, length, Option, Some, None, if◌then◌else◌, refl, sym, ap, ◌∙◌, arith, inl, inr, length-set}
 use Rattle.std.proofs.lemmas.Bool.{cases_eq}
 use Rattle.std.proofs.lemmas.Bool.Decides.{nat_tests}
 use Rattle.page_store.specs.Pages.{Pages}
 use Rattle.lx_machine.proofs.Places.{place-within, place-set_other}
-use Rattle.lx_machine.specs.Lists.{bind, at_place, with_place}
+use Rattle.lx_machine.specs.Lists.{bind, at_place, with_place, without_place}
 use Rattle.lx_machine.specs.Threads.{mark_left, unmarked, unmarked_from, after_write}
 use Rattle.lx_machine.specs.declared.threads.LxThread.{LxThread}
 use Rattle.shards_stand.specs.Shards.{Parts}
@@ -58,6 +58,39 @@ marks-placed ts s t k within = elim (cases_eq k s) [
       ap mark_in (place-set_other ts s k (Some t) other) ∙ sym (ap (λ (b : Bool). if b then t.mark else marks_of ts k) off)
 ]
 
+length-unmarked : (ts : List (Option LxThread)) (at s first last : ℕ) → length (unmarked_from at s first last ts) ≡ length ts
+length-unmarked [] at s first last = refl
+length-unmarked (t ∷ ts) at s first last = ap suc (length-unmarked ts (suc at) s first last)
+
+length-after : (ts : List (Option LxThread)) (s at len : ℕ) → length (after_write s at len ts) ≡ length ts
+length-after ts s at len = by (len == 0)
+  where
+    by : (b : Bool) → length (if b then ts else unmarked_from 0 s (at / 16) ((at + len - 1) / 16) ts) ≡ length ts
+    by true = refl
+    by false = length-unmarked ts 0 s (at / 16) ((at + len - 1) / 16)
+
+-- the marks where a step took the thread in a slot out of its place, wrote, and put it back with the mark that it had
+pub marks-stepped : (ts : List (Option LxThread)) (s at len : ℕ) (t : LxThread) (k : ℕ) → s < length ts → t.mark ≡ marks_of ts s → marks_of (with_place (after_write s at len (without_place ts s)) s t) k ≡ wrote s at len (marks_of ts) k
+marks-stepped ts s at len t k within keeps =
+    let rest = without_place ts s in
+    let now = after_write s at len rest in
+    let size : length now ≡ length ts = length-after rest s at len ∙ length-set ts s None in
+    marks-placed now s t k (omega (arith, size)) ∙ elim (cases_eq k s) [
+      | inl same ↦
+          let own : (k == s) ≡ true = grind (arith, nat_tests) in
+          ap (λ (b : Bool). if b then t.mark else marks_of now k) own ∙ keeps ∙ ap (marks_of ts) (sym same)
+          ∙ own-mark (len == 0) (marks_of ts k)
+          ∙ ap (λ (b : Bool). if len == 0 then marks_of ts k else (if b then marks_of ts k else mark_left (at / 16) ((at + len - 1) / 16) (marks_of ts k))) (sym own)
+      | inr other ↦
+          let off : (k == s) ≡ false = grind (arith, nat_tests) in
+          ap (λ (b : Bool). if b then t.mark else marks_of now k) off ∙ marks-after rest s at len k
+          ∙ ap (λ (m : Option ℕ). if len == 0 then m else (if k == s then m else mark_left (at / 16) ((at + len - 1) / 16) m)) (ap mark_in (place-set_other ts s k None other))
+    ]
+  where
+    own-mark : (b : Bool) (m : Option ℕ) → m ≡ (if b then m else (if true then m else mark_left (at / 16) ((at + len - 1) / 16) m))
+    own-mark true m = refl
+    own-mark false m = refl
+
 -- ---- what stands, with the same granules and marks told otherwise
 
 module _ (code : Pages) (M : Parts) (pages : Pages) where
@@ -73,6 +106,10 @@ module _ (code : Pages) (M : Parts) (pages : Pages) where
   -- the thread in a slot has written: the marks of the list of threads
   pub written-threads : (granules : ℕ → Option ℕ) (ts : List (Option LxThread)) (s at len : ℕ) → Stays code M granules pages (wrote s at len (marks_of ts)) → Stays code M granules pages (marks_of (after_write s at len ts))
   written-threads granules ts s at len = same-stays granules granules (wrote s at len (marks_of ts)) (marks_of (after_write s at len ts)) (λ k. refl) (λ k. sym (marks-after ts s at len k))
+
+  -- the same where a step took the thread out of its place and put it back
+  pub stepped-threads : (granules : ℕ → Option ℕ) (ts : List (Option LxThread)) (s at len : ℕ) (t : LxThread) → s < length ts → t.mark ≡ marks_of ts s → Stays code M granules pages (wrote s at len (marks_of ts)) → Stays code M granules pages (marks_of (with_place (after_write s at len (without_place ts s)) s t))
+  stepped-threads granules ts s at len t within keeps = same-stays granules granules (wrote s at len (marks_of ts)) (marks_of (with_place (after_write s at len (without_place ts s)) s t)) (λ k. refl) (λ k. sym (marks-stepped ts s at len t k within keeps))
 
   -- the same where the thread has changed besides, as an instruction changes it
   pub ran-threads : (granules : ℕ → Option ℕ) (ts : List (Option LxThread)) (s at len : ℕ) (t : LxThread) → s < length ts → Stays code M granules pages (wrote s at len (put (marks_of ts) s t.mark)) → Stays code M granules pages (marks_of (after_write s at len (with_place ts s t)))
