@@ -1,0 +1,12 @@
+pub mod Shards
+pub mod Kept
+pub mod Clause
+pub mod Pieces
+pub mod SlotMarks
+pub mod Accesses
+pub mod CodeWord
+pub mod Words
+pub mod RangeChanges
+pub mod SpaceRows
+pub mod Begin
+pub mod Holding
