@@ -21,8 +21,11 @@ pub enum Object {
 
 /// The numbers of the first shard, the first chain, the process and the files.
 const FIRST_SHARD: usize = SLOTS;
+
 const FIRST_CHAIN: usize = FIRST_SHARD + SHARDS as usize;
+
 const PROCESS: usize = FIRST_CHAIN + CHAINS as usize;
+
 const FILES: usize = PROCESS + 1;
 
 /// How many objects there are.
