@@ -21,7 +21,7 @@ use Rattle.lx_memory.specs.declared.right.Right.TheVariants.{Read, Write, Execut
 use Rattle.lx_machine.specs.Threads.{mark_left}
 use Rattle.lx_machine.specs.Instruction as linux
 use Rattle.lx_machine.specs.Instruction.{Answered, filled}
-use Rattle.shards_stand.specs.Shards.{Parts, shard_at, put_shard}
+use Rattle.machine_parts.specs.Parts.{Parts, shard_at, put_shard}
 use Rattle.shards_stand.specs.Kept.{kept, kept_in, mark_in, is_mark, marked, standing}
 use Rattle.shards_stand.specs.Clause.{IsShardOf, MemoryStands, MemorySound, PageStands, Stays}
 use Rattle.shards_stand.specs.Pieces.{touched, lacking, bytes_in, store_in, changed_shard, store_all, AllHave}

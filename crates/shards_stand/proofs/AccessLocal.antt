@@ -14,7 +14,7 @@ use Rattle.a64_model.specs.declared.access.Answer.TheVariants as answer
 use Rattle.a64_model.specs.declared.access.SwapOp.{SwapOp}
 use Rattle.lx_machine.specs.Instruction.{filled}
 use Rattle.page_store.specs.Pages.{reads, writes}
-use Rattle.shards_stand.specs.Shards.{Parts, shard_at}
+use Rattle.machine_parts.specs.Parts.{Parts, shard_at}
 use Rattle.shards_stand.specs.Kept.{is_mark, mark_in, marked}
 use Rattle.shards_stand.specs.Pieces.{touched, byte_on, lacking, bytes_in, store_in, store_all}
 use Rattle.shards_stand.specs.Accesses.{answers, accessed, load, store, store_exclusive, swap, has_mark, IsFit}

@@ -8,7 +8,7 @@ use Rattle.lx_memory.specs.Access.{allows}
 use Rattle.lx_memory.specs.declared.right.Right.TheVariants.{Execute}
 use Rattle.lx_memory.proofs.OnEach.{get-with_page_same, get-with_page_other}
 use Rattle.guest_mem.specs.Held.{Held}
-use Rattle.shards_stand.specs.Shards.{Parts, shard_at}
+use Rattle.machine_parts.specs.Parts.{Parts, shard_at}
 use Rattle.shards_stand.specs.Kept.{kept, kept_in, mark_in, is_mark}
 use Rattle.shards_stand.specs.Clause.{PageStands, IsShardOf, Stays}
 use Rattle.shards_stand.specs.Begin.{Numbered, with_page_laid, lay, pages_laid, AreStarted, HasFirst, AreFirst, IsCodeOf}

@@ -12,7 +12,7 @@ use Rattle.a64_model.specs.declared.access.Access.{Access}
 use Rattle.a64_model.specs.declared.access.Access.TheVariants as access
 use Rattle.a64_model.specs.declared.access.SwapOp.{SwapOp}
 use Rattle.lx_machine.specs.Ranges.{pages_of, rights_asked}
-use Rattle.shards_stand.specs.Shards.{Parts}
+use Rattle.machine_parts.specs.Parts.{Parts}
 use Rattle.shards_stand.specs.Pieces.{part, touched, lacking, bytes_in, change_shard, stored_where, store_at, store_in, store_all}
 use Rattle.shards_stand.specs.Accesses.{Accessed, accessed, load, store, store_exclusive, swap, has_mark}
 use Rattle.shards_stand.specs.RangeChanges.{on_shards, each_page, each_kept, map_in_room, protect_in_room, map_pages, protect_pages, has_room}

@@ -7,7 +7,7 @@ use Rattle.page_store.specs.Pages.{has_any}
 use Rattle.guest_mem.specs.Held.{Held}
 use Rattle.guest_mem.specs.Held as held
 use Rattle.lx_machine.specs.Ranges.{pages_of, rights_asked}
-use Rattle.shards_stand.specs.Shards.{Parts, shard_at}
+use Rattle.machine_parts.specs.Parts.{Parts, shard_at}
 use Rattle.shards_stand.specs.RangeChanges.{on_shards, each_page, each_kept, map_in_room, protect_in_room, map_pages, protect_pages, room_in, has_room}
 use Rattle.shards_stand.specs.SpaceRows as rows
 use Rattle.shards_stand.specs.SpaceRows.{SpaceParts, After, Refusal, have_code, are_mapped, are_free, fit, rights_fit, gap}

@@ -11,7 +11,7 @@ use Rattle.lx_memory.specs.Bytes.{bytes_at, bytes_of_page}
 use Rattle.lx_memory.specs.declared.right.Right.TheVariants.{Execute}
 use Rattle.lx_memory.specs.Codes.{code_at}
 use Rattle.lx_memory.specs.Queries.{first_lacking}
-use Rattle.shards_stand.specs.Shards.{Parts}
+use Rattle.machine_parts.specs.Parts.{Parts}
 use Rattle.shards_stand.specs.Kept.{kept}
 use Rattle.shards_stand.specs.Clause.{MemoryStands, MemorySound, PageStands}
 use Rattle.shards_stand.specs.Pieces.{page_lacking, byte_on, touched}

@@ -20,3 +20,4 @@ pub mod Written
 pub mod FewAreas
 pub mod Starts
 pub mod ByShards
+pub mod Agree

@@ -12,7 +12,7 @@ use Rattle.lx_memory.specs.Bytes.{byte_at, bytes_at, bytes_of_page}
 use Rattle.places.specs.PageRanges.{page_count}
 use Rattle.lx_memory.proofs.Lacking.{same_first_lacking}
 use Rattle.lx_memory.specs.declared.right.Right.TheVariants.{Read, Write, Execute}
-use Rattle.shards_stand.specs.Shards.{Parts}
+use Rattle.machine_parts.specs.Parts.{Parts}
 use Rattle.shards_stand.specs.Kept.{kept}
 use Rattle.shards_stand.specs.Clause.{MemoryStands, MemorySound, PageStands, no_rights}
 use Rattle.shards_stand.specs.Pieces.{touched, page_lacking, byte_on, lacking, byte_in, bytes_in, AllHave}

@@ -1,5 +1,5 @@
 -- What is done to held shards alone is what is done to the whole machine's.
-use Rattle.std.proofs.Common.{◌≡◌, ℕ, zero, suc, ◌+◌, ◌-◌, ◌*◌, ◌/◌, ◌%◌, ◌<◌, ◌≤◌, Bool, true, is_some, List, ◌∷◌, length, take, drop, Option, Some, None, option_map, if◌then◌else◌, refl, sym, ap, ◌∙◌, arith, inl, inr, get_or, subst, IfSome}
+use Rattle.std.proofs.Common.{◌≡◌, ℕ, zero, suc, ◌+◌, ◌-◌, ◌*◌, ◌/◌, ◌%◌, ◌<◌, ◌≤◌, Bool, true, is_some, List, ◌∷◌, length, take, drop, Option, Some, None, option_map, if◌then◌else◌, refl, sym, ap, ◌∙◌, arith, inl, inr, get_or, subst, IfSome, [], map}
 use Rattle.std.proofs.lemmas.Bool.{cases_eq}
 use Rattle.std.proofs.lemmas.List.{length-drop}
 use Rattle.page_ranges.specs.declared.rights.Rights.{Rights}
@@ -7,23 +7,53 @@ use Rattle.lx_memory.specs.Access.{has}
 use Rattle.lx_memory.specs.Bytes.{bytes_of_page}
 use Rattle.page_store.specs.Pages.{Page, Pages}
 use Rattle.guest_mem.specs.Held.{Held}
-use Rattle.shards_stand.specs.Shards.{Parts, shard_at}
+use Rattle.machine_parts.specs.Held.{over, SameObjects}
+use Rattle.machine_parts.specs.Parts.{Parts, part_at, shard_at}
+use Rattle.machine_parts.specs.declared.part.Part.TheVariants as parts_of
+use Rattle.machine_parts.proofs.Over.{length-over, agrees-put, same-put, same-length}
+use Rattle.machine_parts.proofs.PartKinds.{shard}
 use Rattle.shards_stand.specs.Kept.{kept, kept_in}
-use Rattle.shards_stand.specs.Pieces.{part, change_shard, stored_where, store_in, page_lacking, byte_in, bytes_in}
+use Rattle.shards_stand.specs.Pieces.{part, changed_shard, change_shard, stored_where, store_in, page_lacking, byte_in, bytes_in}
 use Rattle.shards_stand.specs.RangeChanges.{on_shards, each_page}
 use Rattle.shards_stand.specs.Holding.{HoldsPages, HoldsBytes, AreIndexed, AreParts, IsLocal}
 use Rattle.shards_stand.specs.Clause.{IsShardOf, MemorySound}
 use Rattle.shards_stand.proofs.Ranges.{change-same, change-other}
 
 pub local-refl : (h M : Parts) → AreParts h M → IsLocal h M h M
-local-refl h M parts = record { same = λ i. refl; parts = parts; beside = λ i out. refl }
+local-refl h M parts = record { same = λ i. refl; objects = refl; over_is = λ long agrees. agrees; parts = parts; beside = λ i out. refl }
+
+-- what is put over the machine twice, with the same objects held
+over-over : {P : Type 0} (h h' m : List (Option P)) → SameObjects h h' → over h' (over h m) ≡ over h' m
+over-over [] [] m is = refl
+over-over [] (x ∷ xs) m is = absurd (cc)
+over-over (x ∷ xs) [] m is = absurd (cc)
+over-over (x ∷ xs) (y ∷ ys) [] is = refl
+over-over (Some x ∷ xs) (Some y ∷ ys) (q ∷ m) is = let rest : map is_some xs ≡ map is_some ys = cc in ap (λ l. Some y ∷ l) (over-over xs ys m rest)
+over-over (None ∷ xs) (None ∷ ys) (q ∷ m) is = let rest : map is_some xs ≡ map is_some ys = cc in ap (λ l. q ∷ l) (over-over xs ys m rest)
+over-over (Some x ∷ xs) (None ∷ ys) (q ∷ m) is = absurd (cc)
+over-over (None ∷ xs) (Some y ∷ ys) (q ∷ m) is = absurd (cc)
 
 pub local-trans : (h M h1 M1 h2 M2 : Parts) → IsLocal h M h1 M1 → IsLocal h1 M1 h2 M2 → IsLocal h M h2 M2
 local-trans h M h1 M1 h2 M2 one two = record {
   same = λ i. two.same i ∙ one.same i;
+  objects = one.objects ∙ two.objects;
+  over_is = λ long agrees.
+      let first : over h1 M ≡ M1 = one.over_is long agrees in
+      let again : over h1 M1 ≡ M1 = ap (over h1) (sym first) ∙ over-over h1 h1 M refl ∙ first in
+      let size : length h1 ≡ length M1 = sym (same-length h h1 one.objects) ∙ long ∙ sym (length-over h1 M) ∙ ap (λ l. length l) first in
+      sym (over-over h1 h2 M two.objects) ∙ ap (over h2) first ∙ two.over_is size again;
   parts = two.parts;
   beside = λ i out. two.beside i (one.same i ∙ out) ∙ one.beside i out;
 }
+
+-- a shard that is there is put into what is held and into the machine
+put-objects : (h : Parts) (i : ℕ) (f : Held → Held) (o : Option Held) → shard_at h i ≡ o → SameObjects h (changed_shard o h i f)
+put-objects h i f None there = refl
+put-objects h i f (Some x) there = same-put h (128 + i) (parts_of.Shard x) (parts_of.Shard (f x)) (shard.is (part_at h (128 + i)) x there)
+
+put-over : (h M : Parts) (i : ℕ) (f : Held → Held) (o : Option Held) → length h ≡ length M → over h M ≡ M → over (changed_shard o h i f) M ≡ changed_shard o M i f
+put-over h M i f None long agrees = agrees
+put-over h M i f (Some x) long agrees = agrees-put h M (128 + i) (parts_of.Shard (f x)) long agrees
 
 map-some : (o : Option Held) (f : Held → Held) → is_some (option_map f o) ≡ is_some o
 map-some None f = refl
@@ -33,6 +63,8 @@ map-some (Some h) f = refl
 pub change-local : (h M : Parts) (i : ℕ) (f : Held → Held) → AreParts h M → is_some (shard_at h i) ≡ true → IsLocal h M (change_shard h i f) (change_shard M i f)
 change-local h M i f parts held = record {
   same = same;
+  objects = put-objects h i f (shard_at h i) refl;
+  over_is = λ long agrees. put-over h M i f (shard_at h i) long agrees ∙ ap (λ (o : Option Held). changed_shard o M i f) (sym (parts i held));
   parts = λ k there. elim (cases_eq k i) [
     | inl at ↦ ap (shard_at (change_shard M i f)) at ∙ change-same M i f ∙ ap (option_map f) (parts i held) ∙ sym (ap (shard_at (change_shard h i f)) at ∙ change-same h i f)
     | inr other ↦ change-other M i k f other ∙ parts k (sym (same k) ∙ there) ∙ sym (change-other h i k f other)

@@ -10,7 +10,7 @@ use Rattle.lx_memory.specs.declared.right.Right.{Right}
 use Rattle.lx_memory.specs.declared.right.Right.TheVariants.{Write}
 use Rattle.lx_memory.specs.Queries.{is_allowed}
 use Rattle.lx_machine.specs.SignalFrame.{frame_size, is_writable}
-use Rattle.shards_stand.specs.Shards.{Parts}
+use Rattle.machine_parts.specs.Parts.{Parts}
 use Rattle.shards_stand.specs.Kept.{standing}
 use Rattle.shards_stand.specs.Clause.{MemoryStands, MemorySound, Stays}
 use Rattle.shards_stand.specs.Pieces.{touched, lacking, bytes_in, store_in, store_all, may_copy}

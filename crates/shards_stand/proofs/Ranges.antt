@@ -10,7 +10,7 @@ use Rattle.lx_memory.specs.declared.right.Right.TheVariants.{Execute}
 use Rattle.lx_memory.specs.Ranges.{IsOnEach}
 use Rattle.lx_machine.specs.Threads.{mark_left, is_within}
 use Rattle.guest_mem.specs.Held.{Held}
-use Rattle.shards_stand.specs.Shards.{Parts, shard_at}
+use Rattle.machine_parts.specs.Parts.{Parts, shard_at}
 use Rattle.shards_stand.specs.Kept.{kept, kept_in, mark_in, is_mark, marked, standing}
 use Rattle.shards_stand.specs.Clause.{IsShardOf, PageStands, MemoryStands, MemorySound}
 use Rattle.shards_stand.specs.Pieces.{changed_shard, change_shard}

@@ -15,7 +15,7 @@ use Rattle.lx_memory.specs.Queries.{all_mapped, any_executable, all_free, no_cod
 use Rattle.lx_memory.proofs.OnEach.{each-on_each}
 use Rattle.lx_memory.proofs.PageTests.{passes_each}
 use Rattle.guest_mem.specs.Held as held
-use Rattle.shards_stand.specs.Shards.{Parts}
+use Rattle.machine_parts.specs.Parts.{Parts}
 use Rattle.shards_stand.specs.Kept.{kept, marked}
 use Rattle.shards_stand.specs.Clause.{PageStands, MemoryStands, MemorySound, AreasStand, no_rights, bare, Stays}
 use Rattle.shards_stand.specs.RangeChanges.{unmap_pages, zero_pages, map_pages, protect_pages, has_room, each_page, map_in_room, protect_in_room, on_shards, each_kept}

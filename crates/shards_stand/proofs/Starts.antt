@@ -24,7 +24,7 @@ use Rattle.elf_image.specs.declared.parts.Segment.{Segment}
 use Rattle.lx_machine.specs.Stack.{stack_end}
 use Rattle.lx_machine.specs.Start as linux
 use Rattle.lx_machine.specs.Start.{first_pages, first_space, first_page, end_page, stack_rights, code_rights, start}
-use Rattle.shards_stand.specs.Shards.{Parts}
+use Rattle.machine_parts.specs.Parts.{Parts}
 use Rattle.lx_machine.specs.declared.threads.LxThread.{LxThread}
 use Rattle.shards_stand.specs.Clause.{AreasStand, MemorySound}
 use Rattle.shards_stand.specs.SlotMarks.{marks_of}

@@ -1,5 +1,5 @@
 -- A store into one page: what is kept, what is marked, and that the clause stays.
-use Rattle.std.proofs.Common.{◌≡◌, ◌≢◌, ℕ, zero, suc, ◌+◌, ◌-◌, ◌/◌, ◌%◌, ◌<◌, ◌≤◌, Bool, true, false, ◌&&◌, not, ◌==◌, is_some, List, map, [], ◌∷◌, ◌++◌, length, take, drop, get_or, Option, Some, None, IfSome, if◌then◌else◌, refl, sym, ap, subst, ◌∙◌, arith, inl, inr, get_or-set_other}
+use Rattle.std.proofs.Common.{◌≡◌, ◌≢◌, ℕ, ◌+◌, ◌-◌, ◌/◌, ◌%◌, ◌<◌, ◌≤◌, Bool, true, false, ◌&&◌, not, ◌==◌, is_some, List, map, ◌++◌, length, take, drop, get_or, Option, Some, None, IfSome, if◌then◌else◌, refl, sym, ap, subst, ◌∙◌, arith, inl, inr}
 use Rattle.std.specs.FinMap as finite
 use Rattle.std.proofs.lemmas.Bool.{cases_eq}
 use Rattle.std.proofs.lemmas.List.{length-append, length-take-le, length-drop, length-set, length-map}
@@ -16,7 +16,9 @@ use Rattle.lx_memory.proofs.Stored.{piece_written}
 use Rattle.guest_mem.specs.Held.{Held, stored}
 use Rattle.guest_mem.specs.MarkRules.{mark_after}
 use Rattle.lx_machine.specs.Threads.{mark_left, is_within}
-use Rattle.shards_stand.specs.Shards.{Parts, shard_at, put_shard, ShardChange}
+use Rattle.machine_parts.specs.Parts.{Parts, shard_at, put_shard}
+use Rattle.machine_parts.specs.Changes.{ShardChange}
+use Rattle.machine_parts.proofs.Puts.{put_shard_changes}
 use Rattle.shards_stand.specs.Kept.{kept, kept_in, mark_in, is_mark, marked, standing}
 use Rattle.shards_stand.specs.Clause.{IsShardOf, PageStands, MemoryStands, MemorySound}
 use Rattle.shards_stand.specs.SlotMarks.{marks_left}
@@ -28,13 +30,8 @@ page_or d (Some p) = p
 
 -- ---- one shard changed
 
-pub put-now : (M : Parts) (i : ℕ) (h h' : Held) → shard_at M i ≡ Some h → shard_at (put_shard M i h') i ≡ Some h'
-put-now [] i h h' there = absurd (cc)
-put-now (x ∷ xs) zero h h' there = refl
-put-now (x ∷ xs) (suc i) h h' there = put-now xs i h h' there
-
 pub put-change : (M : Parts) (i : ℕ) (h h' : Held) → shard_at M i ≡ Some h → ShardChange M (put_shard M i h') i h'
-put-change M i h h' there = record { now = put-now M i h h' there; others = λ k other. get_or-set_other M i k (Some h') None other }
+put-change M i h h' there = (put_shard_changes M i h h' there).shards
 
 -- ---- marks
 

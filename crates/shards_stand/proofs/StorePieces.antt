@@ -8,7 +8,7 @@ use Rattle.lx_memory.specs.Access.{has}
 use Rattle.lx_memory.specs.Bytes.{with_bytes}
 use Rattle.lx_memory.proofs.Stored.{with_bytes-append}
 use Rattle.guest_mem.specs.Held.{Held, stored}
-use Rattle.shards_stand.specs.Shards.{Parts, shard_at, put_shard}
+use Rattle.machine_parts.specs.Parts.{Parts, shard_at, put_shard}
 use Rattle.shards_stand.specs.Kept.{kept, kept_in}
 use Rattle.shards_stand.specs.Clause.{MemoryStands, MemorySound, Stays}
 use Rattle.shards_stand.specs.Pieces.{part, where_page, stored_where, changed_shard, store_at, store_in, AllHave}

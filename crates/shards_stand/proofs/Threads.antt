@@ -7,7 +7,7 @@ use Rattle.lx_machine.proofs.Places.{place-within, place-set_other}
 use Rattle.lx_machine.specs.Lists.{bind, at_place, with_place, without_place}
 use Rattle.lx_machine.specs.Threads.{mark_left, unmarked, unmarked_from, after_write}
 use Rattle.lx_machine.specs.declared.threads.LxThread.{LxThread}
-use Rattle.shards_stand.specs.Shards.{Parts}
+use Rattle.machine_parts.specs.Parts.{Parts}
 use Rattle.shards_stand.specs.Kept.{standing}
 use Rattle.shards_stand.specs.Clause.{Stays}
 use Rattle.shards_stand.specs.SlotMarks.{marks_left, wrote, put, marks_of}

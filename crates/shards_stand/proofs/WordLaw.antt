@@ -16,7 +16,7 @@ use Rattle.lx_machine.specs.FutexPi.{lock_word}
 use Rattle.lx_machine.specs.Instruction.{ran, executed, leaves}
 use Rattle.lx_machine.specs.Threads.{trapped}
 use Rattle.lx_machine.specs.declared.threads.LxThread.{LxThread}
-use Rattle.shards_stand.specs.Shards.{Parts}
+use Rattle.machine_parts.specs.Parts.{Parts}
 use Rattle.shards_stand.specs.Clause.{MemoryStands, MemorySound, Stays}
 use Rattle.shards_stand.specs.CodeWord.{code_word}
 use Rattle.shards_stand.specs.Pieces.{may_copy, store_all}

@@ -16,7 +16,7 @@ use Rattle.a64_model.specs.declared.operands.Reg.{Reg}
 use Rattle.a64_model.specs.declared.regs.Regs.{Regs}
 use Rattle.lx_machine.specs.Instruction.{Answered, filled}
 use Rattle.page_store.specs.Pages.{Pages, reads, writes}
-use Rattle.shards_stand.specs.Shards.{Parts}
+use Rattle.machine_parts.specs.Parts.{Parts}
 use Rattle.shards_stand.specs.Kept.{marked}
 use Rattle.shards_stand.specs.Clause.{Stays}
 use Rattle.shards_stand.specs.Pieces.{lacking, bytes_in, store_all, change_shard}

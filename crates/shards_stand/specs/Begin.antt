@@ -16,7 +16,7 @@ use Rattle.elf_image.specs.declared.parts.Segment.{Segment}
 use Rattle.lx_machine.specs.Stack.{stack_end}
 use Rattle.lx_machine.specs.Start.{first_page, end_page, last_end, rights_of, stack_rights, code_rights}
 use Rattle.guest_mem.specs.Held.{Held, started}
-use Rattle.shards_stand.specs.Shards.{Parts, shard_at}
+use Rattle.machine_parts.specs.Parts.{Parts, shard_at}
 use Rattle.shards_stand.specs.Kept.{kept, marked}
 use Rattle.shards_stand.specs.Clause.{IsShardOf}
 use Rattle.shards_stand.specs.Pieces.{change_shard}

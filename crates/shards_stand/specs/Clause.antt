@@ -11,7 +11,7 @@ use Rattle.page_store.specs.Pages.{Page, Pages, blank, page_if}
 use Rattle.lx_memory.specs.declared.right.Right.TheVariants.{Execute}
 use Rattle.lx_memory.specs.Access.{allows, rights_of}
 use Rattle.guest_mem.specs.Held.{Held}
-use Rattle.shards_stand.specs.Shards.{Parts, shard_at}
+use Rattle.machine_parts.specs.Parts.{Parts, shard_at}
 use Rattle.shards_stand.specs.Kept.{kept, marked, standing}
 
 -- ---- shards and Linux pages

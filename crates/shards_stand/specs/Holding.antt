@@ -1,8 +1,10 @@
 -- What is held of a machine's shards, and what is done to it alone. Source: this project's own.
-use Rattle.std.specs.Prelude.{◌≡◌, ℕ, ◌+◌, ◌/◌, ◌%◌, ◌<◌, ◌≤◌, true, false, is_some, IfSome}
+use Rattle.std.specs.Prelude.{◌≡◌, ℕ, ◌+◌, ◌/◌, ◌%◌, ◌<◌, ◌≤◌, true, false, is_some, IfSome, length}
 use Rattle.a64_model.specs.declared.access.Access.{Access}
 use Rattle.a64_model.specs.declared.access.Access.TheVariants as access
-use Rattle.shards_stand.specs.Shards.{Parts, shard_at}
+use Rattle.machine_parts.specs.Held.{over, SameObjects}
+use Rattle.machine_parts.specs.Changes.{ThreadsKept, ChainsKept, ProcessKept, FilesKept}
+use Rattle.machine_parts.specs.Parts.{Parts, shard_at}
 use Rattle.shards_stand.specs.Pieces.{touched}
 use Rattle.shards_stand.specs.Accesses.{Accessed}
 use Rattle.shards_stand.specs.SpaceRows.{After}
@@ -24,10 +26,12 @@ AreIndexed h at len =
 abbrev pub AreParts : Parts → Parts → Type 0
 AreParts h M = (i : ℕ) → is_some (shard_at h i) ≡ true → shard_at M i ≡ shard_at h i
 
--- the same is done to what is held and to the machine: the same shards are held, they stay those of the machine, and no other
--- shard of the machine changes
+-- the same is done to what is held and to the machine: the same objects are held, their shards stay those of the machine, no other
+-- shard of the machine changes, and what is held now, put over the machine as it was, is the machine as it is now
 pub record IsLocal (h M h' M' : Parts) : Type 0 where
   pub same : (i : ℕ) → is_some (shard_at h' i) ≡ is_some (shard_at h i)
+  pub objects : SameObjects h h'
+  pub over_is : length h ≡ length M → over h M ≡ M → over h' M ≡ M'
   pub parts : AreParts h' M'
   pub beside : (i : ℕ) → is_some (shard_at h i) ≡ false → shard_at M' i ≡ shard_at M i
 
@@ -57,3 +61,11 @@ pub record IsCallLocal (h M : Parts) (a b : After) : Type 0 where
   pub start_is : a.space.break_start ≡ b.space.break_start
   pub answer_is : a.answer ≡ b.answer
   pub short_is : a.short ≡ b.short
+
+-- no part but shards changes, and none is added or lost
+pub record ShardsAlone (M M' : Parts) : Type 0 where
+  pub threads : ThreadsKept M M'
+  pub chains : ChainsKept M M'
+  pub process : ProcessKept M M'
+  pub files : FilesKept M M'
+  pub size : length M' ≡ length M

@@ -6,7 +6,7 @@ use Rattle.std.specs.FinMap as map
 use Rattle.places.specs.Places as place
 use Rattle.page_store.specs.Pages.{Page}
 use Rattle.guest_mem.specs.Held.{Held}
-use Rattle.shards_stand.specs.Shards.{Parts, shard_at}
+use Rattle.machine_parts.specs.Parts.{Parts, shard_at}
 
 -- the page that a shard keeps at a number
 abbrev pub kept_in : Option Held → ℕ → Option Page

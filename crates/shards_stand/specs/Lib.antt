@@ -1,4 +1,3 @@
-pub mod Shards
 pub mod Kept
 pub mod Clause
 pub mod Pieces

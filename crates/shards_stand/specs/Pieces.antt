@@ -9,7 +9,7 @@ use Rattle.lx_memory.specs.declared.right.Right.{Right}
 use Rattle.lx_memory.specs.Access.{has, allows}
 use Rattle.lx_memory.specs.Bytes.{bytes_of_page}
 use Rattle.guest_mem.specs.Held.{Held, stored}
-use Rattle.shards_stand.specs.Shards.{Parts, shard_at, put_shard}
+use Rattle.machine_parts.specs.Parts.{Parts, shard_at, put_shard}
 use Rattle.shards_stand.specs.Kept.{kept}
 
 -- ---- pages of a range

@@ -7,7 +7,7 @@ use Rattle.places.specs.Places as place
 use Rattle.page_ranges.specs.declared.rights.Rights.{Rights}
 use Rattle.page_store.specs.Pages.{has_any}
 use Rattle.guest_mem.specs.Held.{Held, unmapped, zeroed, mapped, protected}
-use Rattle.shards_stand.specs.Shards.{Parts, shard_at}
+use Rattle.machine_parts.specs.Parts.{Parts, shard_at}
 use Rattle.shards_stand.specs.Pieces.{change_shard}
 
 -- ---- pages in turn

@@ -15,7 +15,7 @@ use Rattle.lx_machine.specs.Calls.{answered, refused}
 use Rattle.lx_machine.specs.Ranges.{SpaceOutcome, pages_of, rights_asked}
 use Rattle.lx_machine.specs.declared.calls.LxCall.{LxCall}
 use Rattle.lx_machine.specs.declared.space.Space.{Space}
-use Rattle.shards_stand.specs.Shards.{Parts}
+use Rattle.machine_parts.specs.Parts.{Parts}
 use Rattle.shards_stand.specs.Clause.{MemoryStands, MemorySound, AreasStand}
 use Rattle.shards_stand.specs.RangeChanges.{unmap_pages, zero_pages, map_pages, protect_pages, has_room}
 use Rattle.shards_stand.specs.SlotMarks.{wrote}

@@ -9,7 +9,7 @@ use Rattle.lx_memory.specs.declared.right.Right.TheVariants.{Read, Write}
 use Rattle.lx_machine.specs.Instruction.{Ran, executed, leaves}
 use Rattle.lx_machine.specs.Threads.{trapped}
 use Rattle.lx_machine.specs.declared.threads.LxThread.{LxThread}
-use Rattle.shards_stand.specs.Shards.{Parts}
+use Rattle.machine_parts.specs.Parts.{Parts}
 use Rattle.shards_stand.specs.Pieces.{bytes_in, may_copy}
 
 -- ---- futex words
