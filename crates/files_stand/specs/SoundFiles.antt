@@ -18,6 +18,7 @@ use Rattle.lx_machine.specs.declared.files.Files.{Files}
 use Rattle.lx_machine.specs.declared.files.Interest.{Interest}
 use Rattle.lx_machine.specs.declared.files.OpenFile.{OpenFile}
 use Rattle.open_files.specs.Plain.{readiness}
+use Rattle.places.specs.declared.limits.TheConstants.{DESCRIPTORS, PIPES, QUEUES, SLOTS}
 use Rattle.bsd_files.specs.State.{FilesState}
 use Rattle.files_stand.specs.FilesStand.{AllStand}
 use Rattle.files_stand.specs.Fluxes.{HasFlux}
@@ -83,11 +84,11 @@ with_holding holding s o x = if x == s then o else holding x
 
 -- 256 descriptors, 384 open files and counters, 64 pipes and 32 queues
 pub record HasSizes (S : FilesState) : Type 0 where
-  pub descriptors : length S.plain.descriptors ≡ 256
+  pub descriptors : length S.plain.descriptors ≡ DESCRIPTORS
   pub files : length S.plain.files ≡ 384
-  pub pipes : length S.plain.pipes ≡ 64
+  pub pipes : length S.plain.pipes ≡ PIPES
   pub counters : length S.plain.counters ≡ 384
-  pub queues : length S.queues ≡ 32
+  pub queues : length S.queues ≡ QUEUES
 
 -- `calls` has the calls of the slots that stand between the two entries of a change, `holding` the open file that each slot's call
 -- holds.
@@ -98,8 +99,8 @@ pub record SoundFiles (calls : ℕ → Option LxCall) (holding : ℕ → Option 
   pub named : (fd : ℕ) (d : Descriptor) → at_place S.plain.descriptors fd ≡ Some d → lives S.plain d.file ≡ true
   pub alone : Alone S.plain.files
   pub there : (i : ℕ) (f : OpenFile) → at_place S.plain.files i ≡ Some f → is_there S f.kind ≡ true
-  pub holders : (i : ℕ) (f : OpenFile) → at_place S.plain.files i ≡ Some f → f.holds ≡ holders_of holding i 128
-  pub held : (s i : ℕ) → holding s ≡ Some i → (s < 128) × (lives S.plain i ≡ true)
+  pub holders : (i : ℕ) (f : OpenFile) → at_place S.plain.files i ≡ Some f → f.holds ≡ holders_of holding i SLOTS
+  pub held : (s i : ℕ) → holding s ≡ Some i → (s < SLOTS) × (lives S.plain i ≡ true)
   pub each : (n : ℕ) (q : Queue) → at_place S.queues n ≡ Some q → SoundQueue S.plain q
   pub epolls : List (Option (List Interest))
   pub stand : AllStand calls S.plain S.queues epolls
