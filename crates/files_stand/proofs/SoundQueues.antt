@@ -1,7 +1,7 @@
 -- What holds of one queue at all times is kept by each op.
 use Rattle.std.proofs.Common.{◌≡◌, ◌≢◌, ℕ, Bool, true, false, not, ◌&&◌, List, Option, Some, None, refl, sym, ap, ◌∙◌, subst, arith}
 use Rattle.std.specs.Prelude.{◌==◌, if◌then◌else◌, is_some}
-use Rattle.kqueue_core.specs.Changes.{IsWatches, activated_those, activated_where, is_apart_from, tally, without_file}
+use Rattle.kqueue_core.specs.Changes.{IsWatches, activated_by, activated_where, is_apart_from, tally, without_file}
 use Rattle.kqueue_core.specs.Queues.{Queue}
 use Rattle.kqueue_core.specs.Watches.{activated_watch}
 use Rattle.kqueue_core.specs.declared.knotes.Filter.{Filter}
@@ -94,7 +94,7 @@ before_end F F' file q still whole h = record {
     gone i false e a h = ap not e
 
 -- knotes of the one kind of open file that may gain events become active
-pub arm_after : (F F' : Files) (k : FileKind) (files : List (Option OpenFile)) (g : Filter) (x : Option Name) (ws : List Watch) → GrowsAt k files F F' → Before F F' x ws → After F' x (activated_those (is_this k files) g ws)
+pub arm_after : (F F' : Files) (k : FileKind) (files : List (Option OpenFile)) (g : Filter) (x : Option Name) (ws : List Watch) → GrowsAt k files F F' → Before F F' x ws → After F' x (activated_by (is_this k files) g ws)
 arm_after F F' k files g x ws grows h = record {
   watches = kept_activated (is_this k files) g ws h.watches;
   alive =
