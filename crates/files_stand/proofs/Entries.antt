@@ -7,9 +7,10 @@ use Rattle.lx_machine.specs.declared.files.Files.{Files}
 use Rattle.lx_machine.specs.declared.files.Interest.{Interest}
 use Rattle.bsd_files.specs.Ops.{Op, Arm, Leave, End, each_queue, in_queues}
 use Rattle.bsd_files.specs.State.{FilesState}
+use Rattle.bsd_files.specs.Moves.{each_epoll, in_epolls}
 use Rattle.files_stand.specs.FilesStand.{AllStand, FilesStand}
 use Rattle.files_stand.specs.Fluxes.{HasFlux}
-use Rattle.files_stand.specs.Steps.{AllFree, AllSpare, IsStep, Keeps, each_epoll, in_epolls}
+use Rattle.files_stand.specs.Steps.{AllFree, AllSpare, IsStep, Keeps}
 use Rattle.files_stand.proofs.Fluxes.{ops_flux, plain_flux}
 use Rattle.files_stand.proofs.Ops.{ops_stand, plain_stands}
 use Rattle.files_stand.proofs.Places.{length_map}

@@ -21,7 +21,8 @@ use Rattle.kqueue_core.specs.Queues.{Queue}
 use Rattle.kqueue_core.specs.Watches.{is_of, activated_watch}
 use Rattle.kqueue_core.specs.Knotes.{awake}
 use Rattle.bsd_files.specs.Ops.{activated_for, left_by, Op, Arm, Leave, End, in_queues, each_queue, is_this}
-use Rattle.files_stand.specs.Steps.{in_epolls, each_epoll, IsFree, AllFree, Keeps}
+use Rattle.bsd_files.specs.Moves.{each_epoll, in_epolls}
+use Rattle.files_stand.specs.Steps.{IsFree, AllFree, Keeps}
 use Rattle.files_stand.specs.Same.{Name}
 use Rattle.files_stand.specs.Fluxes.{FluxStands, is_in_flux_for, read_stands}
 use Rattle.files_stand.specs.FilesStand.{QueueStands, PlaceStands, AllStand}

@@ -19,7 +19,8 @@ use Rattle.lx_machine.specs.declared.label.LxSide.{LxSide}
 use Rattle.lx_machine.specs.declared.label.LxSide.TheVariants as side
 use Rattle.open_files.specs.Plain.{plain_of}
 use Rattle.bsd_files.specs.Ops.{Arm, Leave, close_ops, close_ops_of, drain_ops, end_ops, give_ops, give_ops_of, settle_ops, settle_ops_of}
-use Rattle.files_stand.specs.Steps.{IsStep, each_epoll}
+use Rattle.bsd_files.specs.Moves.{each_epoll}
+use Rattle.files_stand.specs.Steps.{IsStep}
 
 -- ---- the end of an open file, in the plain part
 

@@ -22,8 +22,8 @@ use Rattle.lx_machine.specs.declared.files.Files.{Files}
 use Rattle.lx_machine.specs.declared.files.OpenFile.{OpenFile}
 use Rattle.bsd_files.specs.Ops.{Op, Leave, activated_for, each_queue, end_ops, left_by, settle_ops, settle_ops_of}
 use Rattle.bsd_files.specs.State.{FilesState}
+use Rattle.bsd_files.specs.Moves.{each_epoll}
 use Rattle.files_stand.specs.SoundFiles.{HasSizes, SoundFiles, SoundQueue, flux_name, holders_of, is_that, is_there, lives}
-use Rattle.files_stand.specs.Steps.{each_epoll}
 use Rattle.files_stand.proofs.Closes.{apart_queue, end_spares}
 use Rattle.files_stand.proofs.Entries.{Leaves, fluxes_step, queues_step, rooms_step}
 use Rattle.files_stand.proofs.Frees.{end_free, unnamed}

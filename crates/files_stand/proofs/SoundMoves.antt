@@ -30,8 +30,8 @@ use Rattle.files_stand.proofs.Grows.{Among}
 use Rattle.bsd_files.specs.Calls.{drained}
 use Rattle.bsd_files.specs.Ops.{Op, Arm, activated_for, each_queue}
 use Rattle.bsd_files.specs.State.{FilesState}
+use Rattle.bsd_files.specs.Moves.{each_epoll}
 use Rattle.files_stand.specs.SoundFiles.{AllWhole, SoundFiles, SoundQueue, flux_name, is_there, lives, name_at}
-use Rattle.files_stand.specs.Steps.{each_epoll}
 use Rattle.files_stand.proofs.Entries.{fluxes_step, queues_step, rooms_step, stepped}
 use Rattle.files_stand.proofs.Grows.{GrowsAt, GrowsNowhere, console_grows, counter_grows, drain_grows, input_grows, read_grows, write_grows}
 use Rattle.files_stand.proofs.Moves.{IsMild, Rests, console_rests, drained_rests, no_ops, rests_leaves}

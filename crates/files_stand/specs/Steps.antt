@@ -1,31 +1,15 @@
 -- What an entry on files does to the epolls of the Linux machine, and what it has to leave while changes of interests are at work.
 -- This project's own.
-use Rattle.std.specs.Prelude.{◌≡◌, ◌≢◌, ℕ, List, [], ◌∷◌, map, Option, Some}
-use Rattle.std.specs.Option.{option_map}
+use Rattle.std.specs.Prelude.{◌≡◌, ◌≢◌, ℕ, List, [], ◌∷◌, Some}
 use Rattle.kqueue_core.specs.declared.knotes.Watch.{Watch}
 use Rattle.lx_machine.specs.Calls.{low_argument}
 use Rattle.lx_machine.specs.EpollCtl.{descriptor_refusals, epoll_of, file_of}
-use Rattle.lx_machine.specs.Interests.{armed_for, without_those_in}
-use Rattle.lx_machine.specs.Lists.{without_place}
 use Rattle.lx_machine.specs.declared.calls.LxCall.{LxCall}
 use Rattle.lx_machine.specs.declared.files.Files.{Files}
-use Rattle.lx_machine.specs.declared.files.Interest.{Interest}
 use Rattle.lx_machine.specs.declared.label.Pick.{Pick}
 use Rattle.open_files.specs.Plain.{plain_of}
 use Rattle.bsd_files.specs.Ops.{Op, Arm, Leave, End}
-
--- ---- the epolls
-
--- what makes knotes active arms interests; the interests in an open file that ends go, and so does an epoll with its own
-abbrev pub in_epolls : Op → List (Option (List Interest)) → List (Option (List Interest))
-in_epolls (Arm k f files) es = map (option_map (armed_for k files)) es
-in_epolls (Leave file) es = map (option_map (without_those_in file)) es
-in_epolls (End n) es = without_place es n
-
--- one after the other
-abbrev pub each_epoll : List Op → List (Option (List Interest)) → List (Option (List Interest))
-each_epoll [] es = es
-each_epoll (o ∷ os) es = each_epoll os (in_epolls o es)
+use Rattle.bsd_files.specs.Moves.{each_epoll}
 
 -- ---- a step on files
 
